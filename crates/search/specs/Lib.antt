@@ -1,0 +1,4 @@
+pub mod First
+pub mod List
+pub mod Walk
+pub mod Answer
