@@ -1,0 +1,13 @@
+pub mod Firsts
+pub mod Rows
+pub mod Subtrees
+pub mod Routes
+pub mod Growth
+pub mod Grown
+pub mod Meanings
+pub mod Agreement
+pub mod Table
+pub mod Sampled
+pub mod SampledEdits
+pub mod SampledSorts
+pub mod SampledAnswers

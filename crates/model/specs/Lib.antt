@@ -1,0 +1,11 @@
+pub mod Limits
+pub mod Shape
+pub mod Subtree
+pub mod Tree
+pub mod Packets
+pub mod Properties
+pub mod Refusals
+pub mod Record
+pub mod Theorems
+pub mod Examples
+pub mod Samples
