@@ -1,0 +1,4 @@
+pub mod Path
+pub mod Rules
+pub mod Table
+pub mod Toward

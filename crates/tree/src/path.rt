@@ -1,0 +1,17 @@
+// The way from one domain to another.
+ghost use mathlib.Core.Path.{_≡_};
+ghost use Prim.Native.Nat.{_≤_};
+ghost use lib.ListN.{length, take};
+use model::Hop;
+
+pub mod read;
+
+// The first `count` hops.
+#[derive(Clone, Copy)]
+pub struct Route {
+    pub(crate) hops: [Hop; 126],
+    pub(crate) count: usize,
+    ghost long: { length hops ≡ 126 },
+    ghost counted: { length (take count hops) ≡ count },
+    ghost few: { count ≤ 126 },
+}
