@@ -1,0 +1,4 @@
+pub mod Mapped
+pub mod Lists
+pub mod Broken
+pub mod Owners
