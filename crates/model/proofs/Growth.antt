@@ -1,8 +1,8 @@
 -- The trees that calls make are sound.
-use mathlib.Core.Path.{_≡_, refl, sym, ap, subst, _∙_}
+use mathlib.Core.Path.{_≡_, refl, sym, ap, subst}
 use mathlib.Core.List.{List, [], _∷_, _++_}
 use mathlib.Core.Logic.{_⊎_, inl, inr}
-use Prim.Native.Nat.{ℕ, zero, suc, _+_, _<_, _≤_}
+use Prim.Native.Nat.{ℕ, zero, suc, _<_}
 use native.Mathlib.Omega.{arith}
 use lib.ListN.{length, length-append}
 use Rattle.std.specs.Finite.{nth}
@@ -10,7 +10,7 @@ use Rattle.std.specs.declared.option.Option.the-variants.{Some}
 use Rattle.model.proofs.Rows.{nth-push}
 use Rattle.model.specs.Shape.{Shape, Domain, Firewall, Hangs, Lies, Joined, Sound, bare, attached, branched}
 use Rattle.model.specs.declared.path.Uplink.{Uplink}
-use Rattle.model.proofs.Subtrees.{nth-one, nth-within, nth-some}
+use Rattle.model.proofs.Subtrees.{nth-within, nth-some}
 
 pub nth-old : {X : Type 0} (xs ys : List X) (k : ℕ) (x : X) → nth xs k ≡ Some x → nth (xs ++ ys) k ≡ Some x
 nth-old [] ys k x e = let z : _≡_ {A = ℕ} 0 1 = cc in absurd (omega arith)

@@ -6,18 +6,21 @@ use Prim.Native.Nat.{ℕ, zero, suc, _+_, _/_, _%_, _^_, _<_, _≤_}
 use native.Mathlib.Decide.{ℕ-discrete}
 use native.Mathlib.Omega.{arith}
 use Rattle.std.specs.Finite.{nth}
+use Rattle.std.specs.Options.{valueOr}
+use Rattle.std.specs.declared.option.Option.{Option}
 use Rattle.std.specs.declared.option.Option.the-variants.{Some, None}
 use Rattle.kinds.specs.Made.{dec-both}
 use Rattle.kinds.specs.Set.{set-holds}
 use Rattle.kinds.specs.Words.{Share}
 use Rattle.search.specs.First.{First, Nowhere}
+use Rattle.search.proofs.Positions.{nth-set-other}
 use Rattle.search.proofs.Walks.{first-one}
 use Rattle.model.specs.Packets.{Matches, Decided, In-whole, Complete}
-use Rattle.model.specs.Properties.{Of, Guarded}
-use Rattle.model.specs.Record.{plain, then-tree, Lawful-from, Lawful}
+use Rattle.model.specs.Properties.{Of, Guarded, Against}
+use Rattle.model.specs.Record.{plain, then-tree, tree-from, Right, Lawful-from, Lawful}
 use Rattle.model.specs.Shape.{Domain}
-use Rattle.model.specs.Theorems.{One-domain, One-decision, Cut-short}
-use Rattle.model.specs.Tree.{Tree, Block, start}
+use Rattle.model.specs.Theorems.{One-domain, One-decision, Cut-short, One-more, Breaks-there-only}
+use Rattle.model.specs.Tree.{Tree, Block, start, rules-of, with-rules}
 use Rattle.model.specs.declared.answers.Recorded.{Recorded}
 use Rattle.model.specs.declared.rules.Decision.{Decision}
 use Rattle.model.specs.declared.rules.Packet.{Packet}
@@ -36,6 +39,43 @@ module _ {A R V W : Type 0} (addr : A → V → Type 0) (rests : R → W → Typ
 
   pub cut-short : Cut-short addr rests
   cut-short a r es fs law = lawful-front (start a r) es fs law
+
+  lawful-more : (t : Tree A R) (es : List (Recorded A R V W)) (e : Recorded A R V W) → Lawful-from addr rests t es → Right addr rests (tree-from t es) (e .call) (e .lent) (e .answer)
+      → Guarded addr rests (then-tree (tree-from t es) e) → Lawful-from addr rests t (es ++ (e ∷ [])) × (tree-from t (es ++ (e ∷ [])) ≡ then-tree (tree-from t es) e)
+  lawful-more t [] e law right next = ((law, right, next), refl)
+  lawful-more t (d ∷ es) e law right next =
+      let more = lawful-more (then-tree t d) es e (law .2) right next in
+      ((law .0, law .1, more .0), more .1)
+
+  pub one-more : One-more addr rests
+  one-more a r es e law right next = lawful-more (start a r) es e law right next
+
+  -- another firewall's list is as it was
+  rules-elsewhere : (t : Tree A R) (f g : ℕ) (l : List (Rule A R)) → (g ≡ f → ⊥) → rules-of (with-rules t f l) g ≡ rules-of t g
+  rules-elsewhere t f g l apart = ap (λ (o : Option (List (Rule A R))). valueOr o []) (nth-set-other (t .lists) f g l apart)
+
+  pub breaks-there-only : Breaks-there-only addr rests
+  breaks-there-only t f l p kept g k b = elim (ℕ-discrete g f) [
+    | yes same ↦ same
+    | no apart ↦
+        let elsewhere = rules-elsewhere t f (b .hop .firewall) l (λ e. apart (sym (b .named) ∙ e)) in
+        let breaks = b .breaks in
+        absurd (kept g k (record {
+          hops = b .hops;
+          place = b .place;
+          hop = b .hop;
+          route = b .route;
+          on = b .on;
+          named = b .named;
+          breaks = record {
+            source = breaks .source;
+            destination = breaks .destination;
+            rest = breaks .rest;
+            entered = breaks .entered;
+            against = subst (λ (rs : List (Rule A R)). Against addr rests (p .sort) rs k) elsewhere (breaks .against);
+          };
+        }))
+  ]
 
   -- an address is of one domain only
   pub of-one : (t : Tree A R) → ((j k : ℕ) (b c : Block A) → nth (t .blocks) j ≡ Some b → nth (t .blocks) k ≡ Some c → Share (addr (b .region)) (addr (c .region)) → j ≡ k) → (v : V) (d e : ℕ) → Of addr rests t v d → Of addr rests t v e → d ≡ e

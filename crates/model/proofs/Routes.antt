@@ -2,12 +2,12 @@
 use mathlib.Core.Path.{_≡_, refl, sym, ap, subst, _∙_}
 use mathlib.Core.List.{List, [], _∷_, _++_, map}
 use mathlib.Core.Logic.{_⊎_, inl, inr}
-use Prim.Native.Nat.{ℕ, zero, suc, _+_, _<_, _≤_}
+use Prim.Native.Nat.{ℕ, zero, suc, _+_, _≤_}
 use native.Mathlib.Decide.{ℕ-discrete}
 use native.Mathlib.Omega.{arith}
 use lib.ListN.{length}
 use Rattle.model.specs.Shape.{Shape, Domain, Hangs, Lies, Joined, Walk, Absent, Distinct, firewalls-on, domains-on, Route, Sound, back}
-use Rattle.model.specs.Subtree.{Sub, self, climb, Way, up, across, down}
+use Rattle.model.specs.Subtree.{Sub, self, Way, up, across, down}
 use Rattle.model.specs.declared.path.Hop.{Hop}
 use Rattle.model.proofs.Subtrees.{hangs-one, lies-one, sub-up, above-less, sub-le, parent, crossing, walk-in, walk-out, child-one, branch-one, sub-root, sub-dec, under-dec, child}
 

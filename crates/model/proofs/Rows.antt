@@ -17,15 +17,6 @@ module _ {X : Type 0} where
   nth-push (z ∷ xs) x y zero e = inl e
   nth-push (z ∷ xs) x y (suc k) e = elim (nth-push xs x y k e) [ inl h ↦ inl h | inr h ↦ inr (ap suc (h .0), h .1) ]
 
-  pub nth-old : (xs : List X) (x y : X) (k : ℕ) → nth xs k ≡ Some y → nth (xs ++ x ∷ []) k ≡ Some y
-  nth-old [] x y k e = none-some e
-  nth-old (z ∷ xs) x y zero e = e
-  nth-old (z ∷ xs) x y (suc k) e = nth-old xs x y k e
-
-  pub nth-new : (xs : List X) (x : X) → nth (xs ++ x ∷ []) (length xs) ≡ Some x
-  nth-new [] x = refl
-  nth-new (z ∷ xs) x = nth-new xs x
-
 -- the place in a list of what stands at k once the element at i is gone
 abbrev pub skip : ℕ → ℕ → ℕ
 skip zero k = suc k

@@ -2,12 +2,13 @@
 use mathlib.Core.Path.{_≡_, refl, sym, ap, subst, _∙_}
 use mathlib.Core.List.{List, [], _∷_}
 use mathlib.Core.Logic.{_⊎_, inl, inr}
-use Prim.Native.Nat.{ℕ, zero, suc, _+_, _<_, _≤_}
+use Prim.Native.Nat.{ℕ, zero, suc, _<_, _≤_}
 use native.Mathlib.Decide.{ℕ-discrete}
 use native.Mathlib.Omega.{arith}
 use lib.ListN.{length}
 use Rattle.std.specs.Finite.{nth}
 use Rattle.std.specs.declared.option.Option.the-variants.{Some}
+pub use Rattle.search.proofs.Positions.{nth-within}
 use Rattle.model.specs.Shape.{Shape, Domain, Hangs, Lies, Joined, Walk, Absent, firewalls-on, Depth, top, under, Sound}
 use Rattle.model.specs.Subtree.{Sub, self, climb}
 use Rattle.model.specs.declared.path.Hop.{Hop}
@@ -15,11 +16,6 @@ use Rattle.model.specs.declared.path.Uplink.{Uplink}
 
 pub nth-one : {X : Type 0} (xs : List X) (k : ℕ) (a b : X) → nth xs k ≡ Some a → nth xs k ≡ Some b → a ≡ b
 nth-one xs k a b p q = cc
-
-pub nth-within : {X : Type 0} (xs : List X) (k : ℕ) (x : X) → nth xs k ≡ Some x → k < length xs
-nth-within [] k x e = let z : _≡_ {A = ℕ} 0 1 = cc in absurd (omega arith)
-nth-within (y ∷ xs) zero x e = omega arith
-nth-within (y ∷ xs) (suc k) x e = let h = nth-within xs k x e in omega arith
 
 pub nth-some : {X : Type 0} (xs : List X) (k : ℕ) → k < length xs → (x : X) × (nth xs k ≡ Some x)
 nth-some [] k h = absurd (omega arith)

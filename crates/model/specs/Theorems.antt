@@ -3,11 +3,11 @@ use mathlib.Core.Path.{_≡_}
 use mathlib.Core.List.{List, [], _∷_, _++_}
 use Prim.Native.Nat.{ℕ}
 use Rattle.model.specs.Packets.{Decided, In-whole, Complete}
-use Rattle.model.specs.Properties.{Of}
-use Rattle.model.specs.Record.{plain, Lawful}
+use Rattle.model.specs.Properties.{Of, Kept, Breaks-at, Guarded}
+use Rattle.model.specs.Record.{plain, then-tree, Right, Lawful}
 use Rattle.model.specs.Refusals.{number, Applies}
 use Rattle.model.specs.Shape.{Shape, Domain, Route, back}
-use Rattle.model.specs.Tree.{Tree}
+use Rattle.model.specs.Tree.{Tree, with-rules}
 use Rattle.model.specs.declared.answers.Lent.{Lent}
 use Rattle.model.specs.declared.answers.Recorded.{Recorded}
 use Rattle.model.specs.declared.answers.Refusal as refusal
@@ -16,6 +16,7 @@ use Rattle.model.specs.declared.calls.Call.{Call}
 use Rattle.model.specs.declared.path.Hop.{Hop}
 use Rattle.model.specs.declared.rules.Decision.{Decision}
 use Rattle.model.specs.declared.rules.Packet.{Packet}
+use Rattle.model.specs.declared.rules.Property.{Property}
 use Rattle.model.specs.declared.rules.Rule.{Rule}
 
 -- of the values shown with a refusal, those that are not free: block, property, firewall and the interface entered by
@@ -57,3 +58,13 @@ module _ {A R V W : Type 0} (addr : A → V → Type 0) (rests : R → W → Typ
   -- a lawful record stays lawful when it is cut short
   abbrev pub Cut-short : Type 0
   Cut-short = (a : A) (r : R) (es fs : List (Recorded A R V W)) → Lawful addr rests a r (es ++ fs) → Lawful addr rests a r es
+
+  -- a lawful record with one more entry, whose answer is right and which leaves what stands guarded, is lawful, and its tree is
+  -- the one after that entry
+  abbrev pub One-more : Type 0
+  One-more = (a : A) (r : R) (es : List (Recorded A R V W)) (e : Recorded A R V W) → Lawful addr rests a r es → Right addr rests (plain a r es) (e .call) (e .lent) (e .answer)
+      → Guarded addr rests (then-tree (plain a r es) e) → Lawful addr rests a r (es ++ (e ∷ [])) × (plain a r (es ++ (e ∷ [])) ≡ then-tree (plain a r es) e)
+
+  -- another list for one firewall can break a property that was kept at that firewall only
+  abbrev pub Breaks-there-only : Type 0
+  Breaks-there-only = (t : Tree A R) (f : ℕ) (l : List (Rule A R)) (p : Property A R) → Kept addr rests t p → (g : ℕ) (k : Packet V W) → Breaks-at addr rests (with-rules t f l) p g k → g ≡ f

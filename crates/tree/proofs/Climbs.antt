@@ -1,12 +1,11 @@
 -- One step up in a table.
 use mathlib.Core.Path.{_≡_, refl, sym, ap, subst, _∙_}
-use mathlib.Core.Logic.{_⊎_, inl, inr}
-use Prim.Native.Nat.{ℕ, zero, suc, _+_, _-_, _<_, _≤_}
+use mathlib.Core.Logic.{inl, inr}
+use Prim.Native.Nat.{ℕ, _+_, _-_, _<_, _≤_}
 use native.Mathlib.Omega.{arith}
-use Rattle.std.specs.Options.{Cases}
 use Rattle.std.specs.declared.option.Option.{Option}
 use Rattle.std.specs.declared.option.Option.the-variants.{Some, None}
-use Rattle.model.specs.Shape.{Shape, Domain, Hangs, Lies, Sound, Depth, top, under}
+use Rattle.model.specs.Shape.{Shape, Hangs, Lies, Depth, under}
 use Rattle.model.specs.Subtree.{Sub, self, climb, Way, up, across, down}
 use Rattle.model.specs.declared.path.Hop.{Hop}
 use Rattle.model.proofs.Subtrees.{hangs-one, lies-one, sub-step, sub-le, sub-root, under-zero, above-less}
@@ -14,7 +13,7 @@ use Rattle.tree.specs.Rules.{node-at, interface-at}
 use Rattle.tree.specs.Table.{shape-of}
 use Rattle.tree.specs.Toward.{Branch-of, Child-of}
 use Rattle.tree.specs.declared.table.TreeTable.{TreeTable}
-use Rattle.tree.proofs.Tables.{sound-of, count-domains, lies-before, above-before, lies-is, hangs-is}
+use Rattle.tree.proofs.Tables.{sound-of, count-domains, lies-before, above-before, lies-is}
 
 module _ (t : TreeTable) where
   -- the firewall above a domain, and the domain above that

@@ -1,10 +1,10 @@
 -- How a route is found: hop by hop along the one that there is.
-use mathlib.Core.Path.{_≡_, refl, sym, ap, subst, _∙_}
+use mathlib.Core.Path.{_≡_, sym, ap, subst, _∙_}
 use mathlib.Core.List.{List, [], _∷_, _++_, append-assoc, append-nil}
-use Prim.Native.Nat.{ℕ, zero, suc, _+_, _-_, _<_, _≤_}
+use Prim.Native.Nat.{ℕ, _+_, _<_, _≤_}
 use native.Mathlib.Omega.{arith}
 use lib.ListN.{length, take, set, length-set}
-use Rattle.model.specs.Shape.{Shape, Domain, Sound, Route}
+use Rattle.model.specs.Shape.{Route}
 use Rattle.model.specs.Subtree.{Way}
 use Rattle.model.specs.declared.path.Hop.{Hop}
 use Rattle.model.proofs.Subtrees.{joined-domain}

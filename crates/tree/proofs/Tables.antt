@@ -10,7 +10,7 @@ use lib.Seq.{length-take-le, take-suc-set}
 use Rattle.std.specs.Finite.{nth}
 use Rattle.std.specs.declared.option.Option.the-variants.{Some, None}
 use Rattle.std.proofs.shelf.Tests.{cases-order}
-use Rattle.model.specs.Shape.{Shape, Domain, Firewall, Hangs, Lies, Joined, Sound, attached, branched}
+use Rattle.model.specs.Shape.{Shape, Hangs, Lies, Joined, Sound, attached, branched}
 use Rattle.model.specs.declared.path.Uplink.{Uplink}
 use Rattle.model.proofs.Subtrees.{hangs-one}
 use Rattle.tree.specs.Rules.{no-uplink, node-at, interface-at}

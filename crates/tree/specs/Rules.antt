@@ -3,7 +3,7 @@ use mathlib.Core.Path.{_≡_}
 use mathlib.Core.List.{List}
 use Prim.Native.Nat.{ℕ, _≤_, _<_}
 use lib.ListN.{getD}
-use Rattle.model.specs.Limits.{max-domains, max-interfaces}
+use Rattle.model.specs.Limits.{max-interfaces}
 use Rattle.model.specs.declared.path.Uplink.{Uplink}
 
 abbrev pub no-uplink : Uplink

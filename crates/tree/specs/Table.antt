@@ -11,6 +11,7 @@ use Rattle.tree.specs.declared.table.TreeTable.{TreeTable}
 use Rattle.tree.specs.declared.refusal.TreeRefusal.{TreeRefusal}
 use Rattle.tree.specs.declared.refusal.TreeRefusal.the-variants.{NoSuch, BadInterface, Full}
 
+-- the rows that count
 abbrev pub shape-of : TreeTable → Shape
 shape-of t = record { firewalls = take (t .«firewall_count») (t .firewalls); domains = take (t .«domain_count») (t .domains) }
 
@@ -30,6 +31,7 @@ Attaches t d i j (Err Full) after = Domain (shape-of t) d × Apart i j × (max-d
 abbrev pub Free : Shape → ℕ → ℕ → Type 0
 Free s f i = (i < max-interfaces) × ((d : ℕ) → Joined s f d i → ⊥)
 
+-- what branch answers, the first refusal that applies, and the table after it
 abbrev pub Branches : TreeTable → ℕ → ℕ → Result ℕ TreeRefusal → TreeTable → Type 0
 Branches t f i (Ok made) after =
     Firewall (shape-of t) f × Free (shape-of t) f i × (made ≡ suc (length (shape-of t .domains))) × (made < max-domains) × (shape-of after ≡ branched (shape-of t) f i)

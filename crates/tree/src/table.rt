@@ -3,6 +3,7 @@ ghost use mathlib.Core.Path.{_≡_};
 ghost use Prim.Native.Nat.{_≤_, _<_};
 ghost use lib.ListN.{length, take};
 ghost use Rattle.tree.specs.Rules.{Low, Hung, Below, Falling, Single, Lower};
+use model::MAX_DOMAINS;
 use model::Uplink;
 
 pub mod climb;
@@ -12,13 +13,16 @@ pub mod grow;
 pub mod read;
 pub mod rows;
 
+// A row for each domain but domain 0; there are no more firewalls than that.
+pub(crate) const ROWS: usize = MAX_DOMAINS - 1;
+
 // The first `firewall_count` firewalls, and the first `domain_count` domains after domain 0: domain
 // k + 1 is in row k.
 #[derive(Drop)]
 pub struct TreeTable {
-    firewalls: [Uplink; 63],
+    firewalls: [Uplink; ROWS],
     firewall_count: usize,
-    domains: [Uplink; 63],
+    domains: [Uplink; ROWS],
     domain_count: usize,
     ghost long: { length firewalls ≡ 63 },
     ghost wide: { length domains ≡ 63 },

@@ -1,6 +1,7 @@
 // The route between two domains.
 ghost use Rattle.tree.specs.Path.{Route-of};
 use super::TreeTable;
+use crate::path::HOPS;
 use crate::path::Route;
 use model::Hop;
 
@@ -21,7 +22,7 @@ impl TreeTable {
             left: 0,
             reached: 0,
         };
-        let mut hops = [none; 126];
+        let mut hops = [none; HOPS];
         let mut count = 0;
         let mut at = from;
         while at != to {

@@ -4,8 +4,10 @@ ghost use Prim.Native.Nat.{ℕ, suc, _≤_, _<_};
 ghost use lib.ListN.{length};
 ghost use Rattle.model.specs.Shape.{Joined, bare, attached, branched};
 ghost use Rattle.tree.specs.Table.{shape-of, Apart, Attaches, Branches};
+use super::ROWS;
 use super::TreeTable;
 use crate::refusal::TreeRefusal;
+use model::MAX_INTERFACES;
 use model::Uplink;
 
 impl TreeTable {
@@ -18,9 +20,9 @@ impl TreeTable {
             interface: 0,
         };
         TreeTable {
-            firewalls: [none; 63],
+            firewalls: [none; ROWS],
             firewall_count: 0,
-            domains: [none; 63],
+            domains: [none; ROWS],
             domain_count: 0,
         }
     }
@@ -38,10 +40,10 @@ impl TreeTable {
         if domain > self.domain_count {
             return Err(TreeRefusal::NoSuch);
         }
-        if upper > 31 || lower > 31 || upper == lower {
+        if upper >= MAX_INTERFACES || lower >= MAX_INTERFACES || upper == lower {
             return Err(TreeRefusal::BadInterface);
         }
-        if self.domain_count >= 63 {
+        if self.domain_count >= ROWS {
             return Err(TreeRefusal::Full);
         }
         Ok(self.hang(domain, upper, lower))
@@ -54,13 +56,13 @@ impl TreeTable {
         if firewall >= self.firewall_count {
             return Err(TreeRefusal::NoSuch);
         }
-        if interface > 31 {
+        if interface >= MAX_INTERFACES {
             return Err(TreeRefusal::BadInterface);
         }
         if let Some(_) = self.user(firewall, interface) {
             return Err(TreeRefusal::BadInterface);
         }
-        if 63 <= self.domain_count {
+        if ROWS <= self.domain_count {
             return Err(TreeRefusal::Full);
         }
         Ok(self.add(firewall, interface))

@@ -1,5 +1,5 @@
-use mathlib.Core.Path.{_≡_, refl, sym, _∙_}
-use mathlib.Core.Logic.{_⊎_, inl, inr}
+use mathlib.Core.Path.{_≡_, sym}
+use mathlib.Core.Logic.{inl, inr}
 use lib.Seq.{length-take-le}
 use lib.ListN.{length, set, length-set}
 use Prim.Native.Nat.{ℕ, suc, _+_, _<_, _≤_}

@@ -1,4 +1,4 @@
-use mathlib.Core.Logic.{_⊎_, inl, inr}
+use mathlib.Core.Logic.{inl, inr}
 use Rattle.tree.proofs.Tables.{lies-none}
 use Rattle.tree.proofs.table.TreeTable.domain_uplink.Needs as need
 use Rattle.tree.proofs.table.TreeTable.domain_uplink.Needs.{then-domain-eq0·by·then-domain-eq0, then-domain-eq0·by·else-domain-eq0·then-domain-self}

@@ -1,10 +1,9 @@
-use mathlib.Core.Path.{_≡_, sym, _∙_}
+use mathlib.Core.Path.{_≡_}
 use lib.Seq.{length-take-le}
 use lib.ListN.{length, set, length-set}
 use Prim.Native.Nat.{ℕ, _+_, _<_, _≤_}
 use native.Mathlib.Omega.{arith}
 use Rattle.model.specs.declared.path.Uplink.{Uplink}
-use Rattle.tree.specs.Rules.{interface-at, Lower}
 use Rattle.tree.proofs.Rows.{low-more, single-more, hung-more, below-more, falling-more, lower-more, falling-kept, lower-kept, node-new, interface-new}
 use Rattle.tree.proofs.Tables.{shape-attached, count-domains, count-firewalls}
 use Rattle.tree.proofs.table.TreeTable.hang.Needs as need

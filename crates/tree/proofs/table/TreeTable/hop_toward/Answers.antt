@@ -1,5 +1,3 @@
-use mathlib.Core.Path.{_≡_}
-use Prim.Native.Nat.{_<_, _≤_}
 use native.Mathlib.Omega.{arith}
 use Rattle.tree.specs.Table.{shape-of}
 use Rattle.tree.proofs.Climbs.{row-in, way-down, way-across, way-up, not-zero, not-sub}

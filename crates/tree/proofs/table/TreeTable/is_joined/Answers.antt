@@ -1,8 +1,5 @@
-use mathlib.Core.Path.{_≡_, sym, ap, subst, _∙_}
-use mathlib.Core.Logic.{_⊎_, inl, inr}
-use Prim.Native.Nat.{ℕ, suc, _-_, _<_, _≤_}
+use mathlib.Core.Logic.{inl, inr}
 use native.Mathlib.Omega.{arith}
-use Rattle.model.specs.Shape.{Joined, Hangs, Lies}
 use Rattle.model.proofs.Subtrees.{hangs-one, lies-one}
 use Rattle.tree.specs.Table.{shape-of}
 use Rattle.tree.proofs.Tables.{joined-less, lies-none}

@@ -1,7 +1,6 @@
-use mathlib.Core.Path.{_≡_, refl}
-use Prim.Native.Nat.{_<_, _≤_}
+use mathlib.Core.Path.{refl}
 use native.Mathlib.Omega.{arith}
-use Rattle.tree.proofs.Paths.{On-way, on-start, on-next, on-room, on-end}
+use Rattle.tree.proofs.Paths.{on-start, on-next, on-room, on-end}
 use Rattle.tree.proofs.table.TreeTable.route.Needs as need
 
 pub loop-at-holds : need.loop-at-holds
