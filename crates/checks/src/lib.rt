@@ -1,4 +1,6 @@
 // What a list of rules, or the blocks, say of a property: found by the search.
+#![tactic(auto)]
+
 mod addresses;
 mod packets;
 mod rows;

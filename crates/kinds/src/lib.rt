@@ -1,4 +1,6 @@
 // Field kinds: what a part of a packet can be, and the regions that rules are written with.
+#![tactic(auto)]
+
 mod forms;
 mod kind;
 mod pair;

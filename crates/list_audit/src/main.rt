@@ -1,4 +1,6 @@
 // Audits the rule list of a small office: asks questions of it, and prints which are kept.
+#![tactic(auto)]
+
 mod audit;
 mod packets;
 mod questions;

@@ -1,4 +1,6 @@
 // How long each firewall's list of rules is, and where it lies in the table of rules.
+#![tactic(auto)]
+
 mod laws;
 mod table;
 

@@ -1,5 +1,7 @@
 // The vocabulary of the register: rules, packets, properties, calls, answers and refusals. What
 // they mean is in this crate's specs.
+#![tactic(auto)]
+
 mod answers;
 mod calls;
 mod examples;

@@ -1,5 +1,7 @@
 // Builds a tree with two branches, and prints how deep each domain lies and the route between each
 // two.
+#![tactic(auto)]
+
 use anyhow::anyhow;
 use tree::{Route, TreeTable};
 

@@ -1,4 +1,6 @@
 // Lists of regions with outcomes, first match, and the search for a value with a wished outcome.
+#![tactic(auto)]
+
 mod frames;
 mod list;
 mod lookup;

@@ -1,4 +1,6 @@
 // Holds the search to a slow judge, on many small lists of both packet forms.
+#![tactic(auto)]
+
 mod cases;
 mod judged;
 mod random;

@@ -4,7 +4,7 @@ use Rattle.std.specs.List.{slice_get, insert, remove}
 use Rattle.std.proofs.lemmas.List.Edits.{length-insert, length-remove}
 use Rattle.std.proofs.lemmas.List.{length-take, length-drop, length-append, length-take-le, take_at, drop_at, set_at, take-append-drop}
 use Rattle.tables.specs.Rows.{row_in, row_out}
-use Rattle.tables.proofs.Shift.{drop_nth}
+use Rattle.tables.proofs.Shift.{drop_nth, nth_at, nth_below}
 
 module _ {X : Type 0} where
   -- the element that was put in is taken out again, and the other way round
@@ -42,6 +42,10 @@ module _ {X : Type 0} where
     pub take_row_in : take (u + 1) (row_in u at x xs) ≡ insert (take u xs) at x
     take_row_in = take_at (insert (take u xs) at x) (drop (u + 1) xs) (u + 1) used_in
 
+    -- and those past them
+    pub drop_row_in : drop (u + 1) (row_in u at x xs) ≡ drop (u + 1) xs
+    drop_row_in = drop_at (insert (take u xs) at x) (drop (u + 1) xs) (u + 1) used_in
+
     pub length_row_in : length (row_in u at x xs) ≡ length xs
     length_row_in = let used = used_in in let left = length-drop (u + 1) xs in length-append (insert (take u xs) at x) (drop (u + 1) xs) ∙ omega arith
 
@@ -68,6 +72,20 @@ module _ {X : Type 0} where
     -- the used rows, one less than before
     pub take_row_out : take (u - 1) (row_out u at xs) ≡ remove (take u xs) at
     take_row_out = take_at (remove (take u xs) at) (take 1 (drop at xs) ++ drop u xs) (u - 1) used_out
+
+    -- the row that was taken out, behind them
+    pub nth_row_out : slice_get (row_out u at xs) (u - 1) ≡ slice_get xs at
+    nth_row_out =
+        let (x, here) = nth_below xs at (omega arith) in
+        let one : take 1 (drop at xs) ≡ x ∷ [] = ap (take 1) (drop_nth xs at x here) in
+        ap (λ (l : List X). slice_get (remove (take u xs) at ++ (l ++ drop u xs)) (u - 1)) one ∙ nth_at (remove (take u xs) at) x (drop u xs) (u - 1) used_out ∙ sym here
+
+    -- and those past them
+    pub drop_row_out : drop u (row_out u at xs) ≡ drop u xs
+    drop_row_out =
+        let front = remove (take u xs) at ++ take 1 (drop at xs) in
+        let size : length front ≡ u = let used = used_out in let one = one_out in length-append (remove (take u xs) at) (take 1 (drop at xs)) ∙ omega arith in
+        ap (drop u) (sym (append_assoc (remove (take u xs) at) (take 1 (drop at xs)) (drop u xs))) ∙ drop_at front (drop u xs) u size
 
     pub length_row_out : length (row_out u at xs) ≡ length xs
     length_row_out =

@@ -11,13 +11,13 @@ drop_nth [] i x e = let z : ◌≡◌ {A = ℕ} 0 1 = cc in absurd (omega arith)
 drop_nth (y ∷ xs) zero x e = let same : y ≡ x = cc in ap (λ z. z ∷ xs) same
 drop_nth (y ∷ xs) (suc i) x e = drop_nth xs i x e
 
-nth_at : {X : Type 0} (ys : List X) (x : X) (zs : List X) (n : ℕ) → length ys ≡ n → slice_get (ys ++ x ∷ zs) n ≡ Some x
+pub nth_at : {X : Type 0} (ys : List X) (x : X) (zs : List X) (n : ℕ) → length ys ≡ n → slice_get (ys ++ x ∷ zs) n ≡ Some x
 nth_at [] x zs zero e = refl
 nth_at [] x zs (suc n) e = absurd (omega arith)
 nth_at (y ∷ ys) x zs zero e = absurd (omega arith)
 nth_at (y ∷ ys) x zs (suc n) e = nth_at ys x zs n (omega arith)
 
-nth_below : {X : Type 0} (xs : List X) (i : ℕ) → i < length xs → (x : X) × (slice_get xs i ≡ Some x)
+pub nth_below : {X : Type 0} (xs : List X) (i : ℕ) → i < length xs → (x : X) × (slice_get xs i ≡ Some x)
 nth_below [] i h = absurd (omega arith)
 nth_below (x ∷ xs) zero h = (x, refl)
 nth_below (x ∷ xs) (suc i) h = nth_below xs i (omega arith)

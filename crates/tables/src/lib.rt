@@ -1,4 +1,6 @@
 // The rows of a lent table: the first `used` of them are in use, what lies past them is junk.
+#![tactic(auto)]
+
 ghost use Rattle.std.specs.Prelude.{◌≡◌, ◌+◌, ◌-◌, ◌<◌, ◌≤◌, true, false, length, take, drop, if◌then◌else◌, Decides, slice_set};
 ghost use Rattle.std.specs.List.{slice_get, insert, remove};
 ghost use Rattle.tables.specs.Rows.{row_in, row_out};

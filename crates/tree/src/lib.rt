@@ -1,4 +1,6 @@
 // The tree of domains and firewalls as a table, and the routes that it has.
+#![tactic(auto)]
+
 mod path;
 mod refusal;
 mod table;

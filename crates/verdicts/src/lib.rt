@@ -1,4 +1,6 @@
 // What the tables say of the blocks, of properties and of packets on their way.
+#![tactic(auto)]
+
 mod edited;
 mod misplaced;
 mod overlap;

@@ -9,5 +9,5 @@ returns-in-Err g c t ok is = omega (arith, ap length is ∙ length-map t.blocks 
 pub returns-in-Ok : goal.returns-in-Ok
 returns-in-Ok g c t ok is =
     let a = g.A.Kind in
-    rw c.value-of.ensures
-    (called_astray a.holds g.R.Kind.holds a.plain a.region g.met.A.Kind.rereads t ok _ is g.met.A.Kind.decided c.args.region c.args.domain c.home-of.result c.home-of.ensures _ c.in-Ok.answer c.in-Ok.ensures)
+    rw c.value_of.ensures
+    (called_astray a.holds g.R.Kind.holds a.plain a.region g.met.A.Kind.rereads t ok _ is g.met.A.Kind.decided c.args.region c.args.domain c.home_of.result c.home_of.ensures _ c.in-Ok.answer c.in-Ok.ensures)

@@ -9,7 +9,7 @@ pub returns-then-frames-rules : goal.returns-then-frames-rules
 returns-then-frames-rules g c rs is = omega (arith, ap length is ∙ length-map rs _)
 
 pub returns-else-frames-rules : goal.returns-else-frames-rules
-returns-else-frames-rules g c rs is = (omega (arith, ap length is ∙ length-map rs _), λ k b. omega (arith, c.in-default.ensures))
+returns-else-frames-rules g c rs is = (omega (arith, ap length is ∙ length-map rs _), λ k b. omega (arith, c.in_default.ensures))
 
 pub returns-in-Err : goal.returns-in-Err
 returns-in-Err g c rs is = omega (arith, ap length is ∙ length-map rs _, c.in-Err.ensures)
@@ -20,6 +20,6 @@ returns-in-Ok g c rs is =
     let r = g.R.Kind in
     let one = c.in-Some.interface in
     let only = c.in-Some.ensures in
-    rw c.packet-of.ensures
+    rw c.packet_of.ensures
     (called_found a.holds r.holds a.plain r.plain a.region r.region g.met.A.Kind.rereads g.met.R.Kind.rereads rs c.args.property c.args.entered one (low_bit one.mask c.args.entered one.few (only.1 _ refl)) only _ _ _ is
-    (c.number-of.ensures ∙ ap decision_number c.against.ensures) c.packet-region-target.ensures _ _ c.in-Ok.ensures)
+    (c.number_of.ensures ∙ ap decision_number c.against.ensures) c.packet_region-target.ensures _ _ c.in-Ok.ensures)

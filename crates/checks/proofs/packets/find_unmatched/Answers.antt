@@ -10,7 +10,7 @@ pub returns-in-Ok : goal.returns-in-Ok
 returns-in-Ok g c t rs ea er is =
     let a = g.A.Kind in
     let r = g.R.Kind in
-    let whole = c.whole-packets.ensures in
-    rw c.packet-of.ensures
-    (unmatched_found a.holds r.holds a.plain r.plain a.region r.region g.met.A.Kind.rereads g.met.R.Kind.rereads t rs _ c.whole-packets.result is whole.interfaces
+    let whole = c.whole_packets.ensures in
+    rw c.packet_of.ensures
+    (unmatched_found a.holds r.holds a.plain r.plain a.region r.region g.met.A.Kind.rereads g.met.R.Kind.rereads t rs _ c.whole_packets.result is whole.interfaces
     (whole.parts ∙ sym (λ i. record { left = ea i; right = record { left = ea i; right = er i } })) _ c.in-Ok.answer c.in-Ok.ensures)

@@ -2,12 +2,12 @@ use Rattle.std.proofs.Common.{◌≡◌, ℕ, sym, refl, ◌∙◌, arith}
 use Rattle.search.proofs.Positions.{nth_get_or, before_more, before_all}
 use Rattle.list_audit.proofs.audit.read_all.Goals as goal
 
-pub returns-in-default : goal.returns-in-default
-returns-in-default g c = (
+pub returns-in_default : goal.returns-in_default
+returns-in_default g c = (
   c.index-list-position.result,
   record {
     here = nth_get_or _ _ _ c.loop-position-test.true c.index-list-position.is;
-    fit = sym c.read.ensures ∙ c.in-default.is;
+    fit = sym c.read.ensures ∙ c.in_default.is;
     before = c.loop-position.invariant;
   },
 )

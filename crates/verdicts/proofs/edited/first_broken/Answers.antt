@@ -6,16 +6,16 @@ use Rattle.model.specs.Tree.{with_rules}
 use Rattle.checks.proofs.PropertyRows.{read_at, past_nothing, past_property, first_property, no_property}
 use Rattle.verdicts.specs.Edited.{BreakAtFound}
 use Rattle.verdicts.proofs.edited.first_broken.Goals as goal
-use Rattle.verdicts.proofs.edited.first_broken.Goals.{in-Some+in-ok-packet+in-default-2, in-default}
+use Rattle.verdicts.proofs.edited.first_broken.Goals.{in-Some+in_ok-packet+in_default-2, in_default}
 
-pub returns-in-err-packet : goal.returns-in-err-packet
-returns-in-err-packet g c t rs same less is are kept =
+pub returns-in_err-packet : goal.returns-in_err-packet
+returns-in_err-packet g c t rs same less is are kept =
     let a = g.A.Kind in
     let r = g.R.Kind in
     let here = nth_get_or c.args.properties.now c.loop-index.index c.index-properties-index.result c.loop-index-test.true c.index-properties-index.is in
-    let at = read_at a.plain r.plain a.region r.region g.met.A.Kind.rereads g.met.R.Kind.rereads (Broken a.holds r.holds (with_rules t c.args.firewall rs)) c.args.properties.now t.properties are c.loop-index.index c.index-properties-index.result c.in-Some.property here (sym c.read-property.ensures ∙ c.in-Some.is) in
-    let p = err_from_is_err_and c.from-residual.result c.from-residual.ensures.1 in
-    rw p.1 (omega (arith, c.in-err-packet.ensures t rs same less is (kept c.loop-index.index c.in-Some.property at)))
+    let at = read_at a.plain r.plain a.region r.region g.met.A.Kind.rereads g.met.R.Kind.rereads (Broken a.holds r.holds (with_rules t c.args.firewall rs)) c.args.properties.now t.properties are c.loop-index.index c.index-properties-index.result c.in-Some.property here (sym c.read_property.ensures ∙ c.in-Some.is) in
+    let p = err_from_is_err_and c.from_residual.result c.from_residual.ensures.1 in
+    rw p.1 (omega (arith, c.in_err-packet.ensures t rs same less is (kept c.loop-index.index c.in-Some.property at)))
 
 pub returns-in-Some-2 : goal.returns-in-Some-2
 returns-in-Some-2 g c t rs same less is are kept =
@@ -24,9 +24,9 @@ returns-in-Some-2 g c t rs same less is are kept =
     let p = c.in-Some.property in
     let fits = Broken a.holds r.holds (with_rules t c.args.firewall rs) in
     let here = nth_get_or c.args.properties.now c.loop-index.index c.index-properties-index.result c.loop-index-test.true c.index-properties-index.is in
-    let reads = sym c.read-property.ensures ∙ c.in-Some.is in
+    let reads = sym c.read_property.ensures ∙ c.in-Some.is in
     let at = read_at a.plain r.plain a.region r.region g.met.A.Kind.rereads g.met.R.Kind.rereads fits c.args.properties.now t.properties are c.loop-index.index c.index-properties-index.result p here reads in
-    let found = c.in-ok-packet.ensures t rs same less is (kept c.loop-index.index p at) in
+    let found = c.in_ok-packet.ensures t rs same less is (kept c.loop-index.index p at) in
     let breaks = subst (λ o. BreakAtFound a.holds r.holds t c.args.firewall rs p (length c.loop-index.frames) (Ok o)) c.in-Some-2.is found in (
       p,
       first_property a.plain r.plain a.region r.region g.met.A.Kind.rereads g.met.R.Kind.rereads fits c.args.properties.now t.properties are c.loop-index.index c.index-properties-index.result p here reads (c.loop-index.invariant t rs same less is are kept) (c.args.firewall, c.in-Some-2.packet, breaks),
@@ -39,16 +39,16 @@ loop-index-preserved g c t rs same less is are kept =
     let r = g.R.Kind in
     let fits = Broken a.holds r.holds (with_rules t c.args.firewall rs) in
     let here = nth_get_or c.args.properties.now c.loop-index.index c.index-properties-index.result c.loop-index-test.true c.index-properties-index.is in
-    elim c.match-read-property.branch [
-      | in-Some+in-ok-packet+in-default-2 w ↦
+    elim c.match-read_property.branch [
+      | in-Some+in_ok-packet+in_default-2 w ↦
           let p = w.in-Some.property in
-          let reads = sym c.read-property.ensures ∙ w.in-Some.is in
+          let reads = sym c.read_property.ensures ∙ w.in-Some.is in
           let at = read_at a.plain r.plain a.region r.region g.met.A.Kind.rereads g.met.R.Kind.rereads fits c.args.properties.now t.properties are c.loop-index.index c.index-properties-index.result p here reads in
-          let found = w.in-ok-packet.ensures t rs same less is (kept c.loop-index.index p at) in
-          let none = subst (λ o. BreakAtFound a.holds r.holds t c.args.firewall rs p (length c.loop-index.frames) (Ok o)) w.in-default-2.is found in
+          let found = w.in_ok-packet.ensures t rs same less is (kept c.loop-index.index p at) in
+          let none = subst (λ o. BreakAtFound a.holds r.holds t c.args.firewall rs p (length c.loop-index.frames) (Ok o)) w.in_default-2.is found in
           past_property a.plain r.plain a.region r.region g.met.A.Kind.rereads g.met.R.Kind.rereads fits c.args.properties.now t.properties are c.loop-index.index c.index-properties-index.result p here reads (c.loop-index.invariant t rs same less is are kept) none
-      | in-default w ↦
-          past_nothing a.plain r.plain a.region r.region g.met.A.Kind.rereads g.met.R.Kind.rereads fits c.args.properties.now t.properties are c.loop-index.index c.index-properties-index.result here (sym c.read-property.ensures ∙ w.in-default.is)
+      | in_default w ↦
+          past_nothing a.plain r.plain a.region r.region g.met.A.Kind.rereads g.met.R.Kind.rereads fits c.args.properties.now t.properties are c.loop-index.index c.index-properties-index.result here (sym c.read_property.ensures ∙ w.in_default.is)
     ]
 
 pub returns : goal.returns

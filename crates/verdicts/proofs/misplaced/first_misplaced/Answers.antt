@@ -5,21 +5,21 @@ use Rattle.model.specs.Refusals.{SomeAstray}
 use Rattle.checks.proofs.PropertyRows.{past_nothing, past_property, first_property, no_property}
 use Rattle.verdicts.specs.Misplaced.{AstrayIn}
 use Rattle.verdicts.proofs.misplaced.first_misplaced.Goals as goal
-use Rattle.verdicts.proofs.misplaced.first_misplaced.Goals.{in-Some+in-ok-address+in-default-2, in-default}
+use Rattle.verdicts.proofs.misplaced.first_misplaced.Goals.{in-Some+in_ok-address+in_default-2, in_default}
 
-pub returns-in-err-address : goal.returns-in-err-address
-returns-in-err-address g c t ok is are =
-    let p = err_from_is_err_and c.from-residual.result c.from-residual.ensures.1 in
-    rw p.1 (omega (arith, c.in-err-address.ensures t ok is))
+pub returns-in_err-address : goal.returns-in_err-address
+returns-in_err-address g c t ok is are =
+    let p = err_from_is_err_and c.from_residual.result c.from_residual.ensures.1 in
+    rw p.1 (omega (arith, c.in_err-address.ensures t ok is))
 
 pub returns-in-Some-2 : goal.returns-in-Some-2
 returns-in-Some-2 g c t ok is are =
     let a = g.A.Kind in
     let r = g.R.Kind in
-    let astray = subst (λ o. AstrayIn a.holds r.holds t c.in-Some.property (length c.loop-index.frames) (Ok o)) c.in-Some-2.is (c.in-ok-address.ensures t ok is) in (
+    let astray = subst (λ o. AstrayIn a.holds r.holds t c.in-Some.property (length c.loop-index.frames) (Ok o)) c.in-Some-2.is (c.in_ok-address.ensures t ok is) in (
       c.in-Some.property,
       first_property a.plain r.plain a.region r.region g.met.A.Kind.rereads g.met.R.Kind.rereads (SomeAstray a.holds r.holds t) c.args.properties.now t.properties are
-          c.loop-index.index c.index-properties-index.result c.in-Some.property (nth_get_or _ _ _ c.loop-index-test.true c.index-properties-index.is) (sym c.read-property.ensures ∙ c.in-Some.is) (c.loop-index.invariant t ok is are) (c.in-Some-2.address, astray),
+          c.loop-index.index c.index-properties-index.result c.in-Some.property (nth_get_or _ _ _ c.loop-index-test.true c.index-properties-index.is) (sym c.read_property.ensures ∙ c.in-Some.is) (c.loop-index.invariant t ok is are) (c.in-Some-2.address, astray),
       astray,
     )
 
@@ -28,14 +28,14 @@ loop-index-preserved g c t ok is are =
     let a = g.A.Kind in
     let r = g.R.Kind in
     let here = nth_get_or c.args.properties.now c.loop-index.index c.index-properties-index.result c.loop-index-test.true c.index-properties-index.is in
-    elim c.match-read-property.branch [
-      | in-Some+in-ok-address+in-default-2 w ↦
-          let none = subst (λ o. AstrayIn a.holds r.holds t w.in-Some.property (length c.loop-index.frames) (Ok o)) w.in-default-2.is (w.in-ok-address.ensures t ok is) in
+    elim c.match-read_property.branch [
+      | in-Some+in_ok-address+in_default-2 w ↦
+          let none = subst (λ o. AstrayIn a.holds r.holds t w.in-Some.property (length c.loop-index.frames) (Ok o)) w.in_default-2.is (w.in_ok-address.ensures t ok is) in
           past_property a.plain r.plain a.region r.region g.met.A.Kind.rereads g.met.R.Kind.rereads (SomeAstray a.holds r.holds t) c.args.properties.now t.properties are
-          c.loop-index.index c.index-properties-index.result w.in-Some.property here (sym c.read-property.ensures ∙ w.in-Some.is) (c.loop-index.invariant t ok is are) none
-      | in-default w ↦
+          c.loop-index.index c.index-properties-index.result w.in-Some.property here (sym c.read_property.ensures ∙ w.in-Some.is) (c.loop-index.invariant t ok is are) none
+      | in_default w ↦
           past_nothing a.plain r.plain a.region r.region g.met.A.Kind.rereads g.met.R.Kind.rereads (SomeAstray a.holds r.holds t) c.args.properties.now t.properties are
-          c.loop-index.index c.index-properties-index.result here (sym c.read-property.ensures ∙ w.in-default.is)
+          c.loop-index.index c.index-properties-index.result here (sym c.read_property.ensures ∙ w.in_default.is)
     ]
 
 pub returns : goal.returns

@@ -7,5 +7,5 @@ use Rattle.verdicts.proofs.route.break_in.Goals as goal
 pub returns : goal.returns
 returns g c t laid =
     let f = c.args.hop.firewall in
-    hop_found g.A.Kind.holds g.R.Kind.holds t c.args.property c.args.lists.now c.args.rules.now laid c.args.hop (length c.args.frames.now) c.find-break.result
-    (c.find-break.ensures (rules_of t f) (c.rows-of-list.ensures ∙ laid_list laid f))
+    hop_found g.A.Kind.holds g.R.Kind.holds t c.args.property c.args.lists.now c.args.rules.now laid c.args.hop (length c.args.frames.now) c.find_break.result
+    (c.find_break.ensures (rules_of t f) (c.rows_of-list.ensures ∙ laid_list laid f))

@@ -9,7 +9,7 @@ pub returns-in-Some : goal.returns-in-Some
 returns-in-Some g c t shape laid =
     let p = c.args.property in
     let hops = hops_of c.in-Some.route in
-    asked_found g.A.Kind.holds g.R.Kind.holds t p (subst Sound shape (sound_of c.args.tree.now)) hops (subst (λ s. Route s p.from p.to hops) shape c.in-Some.ensures) (length c.args.frames.now) c.break-on.result (c.break-on.ensures t laid)
+    asked_found g.A.Kind.holds g.R.Kind.holds t p (subst Sound shape (sound_of c.args.tree.now)) hops (subst (λ s. Route s p.from p.to hops) shape c.in-Some.ensures) (length c.args.frames.now) c.break_on.result (c.break_on.ensures t laid)
 
 pub returns_in_None : goal.returns-in-None
 returns_in_None g c t shape laid =

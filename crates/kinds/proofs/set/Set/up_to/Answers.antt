@@ -3,8 +3,8 @@ use Rattle.std.proofs.lemmas.Nat.{one_shl}
 use Rattle.kinds.specs.Masks.{ones_bits}
 use Rattle.kinds.proofs.set.Set.up_to.Goals as goal
 
-pub invariant-of-result : goal.invariant-of-result
-invariant-of-result c =
+pub invariant_of-result : goal.invariant_of-result
+invariant_of-result c =
     let count = c.min-count.result + 1 in
     let low : 2 ^ 1 ≤ 2 ^ count = pow_mono {i = 1} (omega arith) in
     let high : 2 ^ count ≤ 2 ^ 32 = pow_mono {j = 32} (omega (arith, c.min-count.ensures)) in

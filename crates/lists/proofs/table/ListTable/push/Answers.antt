@@ -2,8 +2,8 @@ use Rattle.std.proofs.Common.{◌∙◌, arith, length-set}
 use Rattle.lists.proofs.Edited.{pushed, pushed_counted, pushed_short, pushed_sum}
 use Rattle.lists.proofs.table.ListTable.push.Goals as goal
 
-pub invariant-of-self : goal.invariant-of-self
-invariant-of-self c =
+pub invariant_of-self : goal.invariant_of-self
+invariant_of-self c =
     let t = c.args.self.now in
     let few = c.requires.few in
     let room = c.requires.room in

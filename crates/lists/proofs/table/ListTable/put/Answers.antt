@@ -2,8 +2,8 @@ use Rattle.std.proofs.Common.{sum, ap, ◌∙◌, arith, length-set}
 use Rattle.lists.proofs.Edited.{put_in, put_counted, put_short}
 use Rattle.lists.proofs.table.ListTable.put.Goals as goal
 
-pub invariant-of-self : goal.invariant-of-self
-invariant-of-self c =
+pub invariant_of-self : goal.invariant_of-self
+invariant_of-self c =
     let t = c.args.self.now in
     let f = c.args.firewall in
     let y = c.args.length in

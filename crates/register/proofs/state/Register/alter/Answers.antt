@@ -9,5 +9,5 @@ pub returns : goal.returns
 returns g c =
     let m = c.args.memory in
     promised g.A.Kind.holds g.R.Kind.holds g.A.Kind.plain g.R.Kind.plain g.met.A.Kind.decided g.met.A.Kind.inhabited c.args.self.now c.args.self.now (stored m.rules.now m.blocks.now m.properties.now) _ (Alter c.args.firewall c.args.position c.args.rule)
-    (lent_of m.rules.now m.blocks.now m.properties.now m.packet_frames.now m.address_frames.now) (λ _. Done) (λ x. refl) c.try-alter.result c.done.result c.done.ensures c.lent-lent.result c.lent-lent.ensures
-    (c.try-alter.ensures m.blocks.now)
+    (lent_of m.rules.now m.blocks.now m.properties.now m.packet_frames.now m.address_frames.now) (λ _. Done) (λ x. refl) c.try_alter.result c.done.result c.done.ensures c.lent-lent.result c.lent-lent.ensures
+    (c.try_alter.ensures m.blocks.now)

@@ -8,6 +8,6 @@ use Rattle.register.proofs.state.Register.attach.Goals as goal
 pub returns : goal.returns
 returns g c =
     let m = c.args.memory in
-    promised g.A.Kind.holds g.R.Kind.holds g.A.Kind.plain g.R.Kind.plain g.met.A.Kind.decided g.met.A.Kind.inhabited c.args.self.now c.try-attach.new.self (stored m.rules.now m.blocks.now m.properties.now) _ (Attach c.args.domain c.args.upper c.args.lower c.args.decision)
-    (lent_of m.rules.now m.blocks.now m.properties.now m.packet_frames.now m.address_frames.now) attached_as (λ x. refl) c.try-attach.result c.attached.result c.attached.ensures c.lent-lent.result c.lent-lent.ensures
-    (c.try-attach.ensures m.blocks.now m.properties.now)
+    promised g.A.Kind.holds g.R.Kind.holds g.A.Kind.plain g.R.Kind.plain g.met.A.Kind.decided g.met.A.Kind.inhabited c.args.self.now c.try_attach.new.self (stored m.rules.now m.blocks.now m.properties.now) _ (Attach c.args.domain c.args.upper c.args.lower c.args.decision)
+    (lent_of m.rules.now m.blocks.now m.properties.now m.packet_frames.now m.address_frames.now) attached_as (λ x. refl) c.try_attach.result c.attached.result c.attached.ensures c.lent-lent.result c.lent-lent.ensures
+    (c.try_attach.ensures m.blocks.now m.properties.now)

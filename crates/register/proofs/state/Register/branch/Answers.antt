@@ -8,6 +8,6 @@ use Rattle.register.proofs.state.Register.branch.Goals as goal
 pub returns : goal.returns
 returns g c =
     let m = c.args.memory in
-    promised g.A.Kind.holds g.R.Kind.holds g.A.Kind.plain g.R.Kind.plain g.met.A.Kind.decided g.met.A.Kind.inhabited c.args.self.now c.try-branch.new.self (stored m.rules.now m.blocks.now m.properties.now) _ (Branch c.args.firewall c.args.interface)
-    (lent_of m.rules.now m.blocks.now m.properties.now m.packet_frames.now m.address_frames.now) Branched (λ x. refl) c.try-branch.result c.branched.result c.branched.ensures c.lent.result c.lent.ensures
-    (c.try-branch.ensures (stored m.rules.now m.blocks.now m.properties.now))
+    promised g.A.Kind.holds g.R.Kind.holds g.A.Kind.plain g.R.Kind.plain g.met.A.Kind.decided g.met.A.Kind.inhabited c.args.self.now c.try_branch.new.self (stored m.rules.now m.blocks.now m.properties.now) _ (Branch c.args.firewall c.args.interface)
+    (lent_of m.rules.now m.blocks.now m.properties.now m.packet_frames.now m.address_frames.now) Branched (λ x. refl) c.try_branch.result c.branched.result c.branched.ensures c.lent.result c.lent.ensures
+    (c.try_branch.ensures (stored m.rules.now m.blocks.now m.properties.now))

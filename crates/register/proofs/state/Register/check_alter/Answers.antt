@@ -6,14 +6,14 @@ use Rattle.register.specs.Edits.{There, list_length}
 use Rattle.register.proofs.Edits.{alter_missing, alter_opened}
 use Rattle.register.proofs.state.Register.check_alter.Goals as goal
 
-pub returns-in-err-check-there : goal.returns-in-err-check-there
-returns-in-err-check-there g c =
-    let e = err_from_is_err_and c.from-residual-in-err-check-there.result c.from-residual-in-err-check-there.ensures.1 in
+pub returns-in_err-check_there : goal.returns-in_err-check_there
+returns-in_err-check_there g c =
+    let e = err_from_is_err_and c.from_residual-in_err-check_there.result c.from_residual-in_err-check_there.ensures.1 in
     let was = c.args.self.now in
     let f = c.args.firewall in
-    let (is, why) = c.in-err-check-there.ensures in
+    let (is, why) = c.in_err-check_there.ensures in
     rw (e.1, e.2)
-    (alter_missing g.A.Kind.holds g.R.Kind.holds g.A.Kind.plain g.R.Kind.plain was c.args.lent c.in-ok-check-lengths.ensures f c.args.position c.args.rule
+    (alter_missing g.A.Kind.holds g.R.Kind.holds g.A.Kind.plain g.R.Kind.plain was c.args.lent c.in_ok-check_lengths.ensures f c.args.position c.args.rule
     (There was c.args.lent f (list_length was f) c.args.position) _ is
     (subst (λ n. (Firewall (shape_of was.tree) f → ⊥) ⊎ (n ≤ c.args.position)) c.length.ensures why))
 
@@ -21,6 +21,6 @@ pub returns : goal.returns
 returns g c =
     let was = c.args.self.now in
     let f = c.args.firewall in
-    alter_opened g.A.Kind.holds g.R.Kind.holds g.A.Kind.plain g.R.Kind.plain was c.args.lent c.in-ok-check-lengths.ensures f c.args.position c.args.rule
-    (subst (λ n. (Firewall (shape_of was.tree) f → ⊥) ⊎ (n ≤ c.args.position) → ⊥) c.length.ensures c.in-ok-check-there.ensures)
-    c.check-rule-inside.result c.check-rule-inside.ensures
+    alter_opened g.A.Kind.holds g.R.Kind.holds g.A.Kind.plain g.R.Kind.plain was c.args.lent c.in_ok-check_lengths.ensures f c.args.position c.args.rule
+    (subst (λ n. (Firewall (shape_of was.tree) f → ⊥) ⊎ (n ≤ c.args.position) → ⊥) c.length.ensures c.in_ok-check_there.ensures)
+    c.check_rule_inside.result c.check_rule_inside.ensures

@@ -4,13 +4,13 @@ use Rattle.register.specs.Edits.{KeptJudged}
 use Rattle.register.proofs.Edits.{then_kept}
 use Rattle.register.proofs.state.Register.check_edited.Goals as goal
 
-pub returns-in-err-check-complete : goal.returns-in-err-check-complete
-returns-in-err-check-complete g c t rs s is =
-    let p = err_from_is_err_and c.from-residual.result c.from-residual.ensures.1 in
-    rw (p.1, p.2) (elim (c.in-err-check-complete.ensures t rs s.all_addresses s.all_rests is) [ inl short ↦ inl short | inr shown ↦ inr (inl shown) ])
+pub returns-in_err-check_complete : goal.returns-in_err-check_complete
+returns-in_err-check_complete g c t rs s is =
+    let p = err_from_is_err_and c.from_residual.result c.from_residual.ensures.1 in
+    rw (p.1, p.2) (elim (c.in_err-check_complete.ensures t rs s.all_addresses s.all_rests is) [ inl short ↦ inl short | inr shown ↦ inr (inl shown) ])
 
 pub returns : goal.returns
 returns g c t rs s is =
-    let all = c.in-ok-check-complete.ensures t rs s.all_addresses s.all_rests is in
-    then_kept g.A.Kind.holds g.R.Kind.holds t rs (length c.args.frames.now) c.args.firewall all c.check-kept.result
-    (subst (λ n. KeptJudged g.A.Kind.holds g.R.Kind.holds t rs n c.args.firewall c.check-kept.result) c.check-complete.auto.frames (c.check-kept.ensures t rs s is))
+    let all = c.in_ok-check_complete.ensures t rs s.all_addresses s.all_rests is in
+    then_kept g.A.Kind.holds g.R.Kind.holds t rs (length c.args.frames.now) c.args.firewall all c.check_kept.result
+    (subst (λ n. KeptJudged g.A.Kind.holds g.R.Kind.holds t rs n c.args.firewall c.check_kept.result) c.check_complete.auto.frames (c.check_kept.ensures t rs s is))

@@ -10,5 +10,5 @@ pub returns : goal.returns
 returns g c =
     let was = c.args.self.now in
     let f = c.args.firewall in
-    lift_opened g.A.Kind.holds g.R.Kind.holds g.A.Kind.plain g.R.Kind.plain was c.args.lent c.in-ok-check-lengths.ensures f c.args.position c.check-there.result
-    (subst (λ n. Refuses c.check-there.result NoSuch ((Firewall (shape_of was.tree) f → ⊥) ⊎ (n ≤ c.args.position))) c.length.ensures c.check-there.ensures)
+    lift_opened g.A.Kind.holds g.R.Kind.holds g.A.Kind.plain g.R.Kind.plain was c.args.lent c.in_ok-check_lengths.ensures f c.args.position c.check_there.result
+    (subst (λ n. Refuses c.check_there.result NoSuch ((Firewall (shape_of was.tree) f → ⊥) ⊎ (n ≤ c.args.position))) c.length.ensures c.check_there.ensures)

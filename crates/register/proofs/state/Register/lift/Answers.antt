@@ -8,6 +8,6 @@ use Rattle.register.proofs.state.Register.lift.Goals as goal
 pub returns : goal.returns
 returns g c =
     let m = c.args.memory in
-    promised g.A.Kind.holds g.R.Kind.holds g.A.Kind.plain g.R.Kind.plain g.met.A.Kind.decided g.met.A.Kind.inhabited c.args.self.now c.try-lift.new.self (stored m.rules.now m.blocks.now m.properties.now) _ (Lift c.args.firewall c.args.position)
-    (lent_of m.rules.now m.blocks.now m.properties.now m.packet_frames.now m.address_frames.now) (λ _. Done) (λ x. refl) c.try-lift.result c.done.result c.done.ensures c.lent-lent.result c.lent-lent.ensures
-    (c.try-lift.ensures m.blocks.now)
+    promised g.A.Kind.holds g.R.Kind.holds g.A.Kind.plain g.R.Kind.plain g.met.A.Kind.decided g.met.A.Kind.inhabited c.args.self.now c.try_lift.new.self (stored m.rules.now m.blocks.now m.properties.now) _ (Lift c.args.firewall c.args.position)
+    (lent_of m.rules.now m.blocks.now m.properties.now m.packet_frames.now m.address_frames.now) (λ _. Done) (λ x. refl) c.try_lift.result c.done.result c.done.ensures c.lent-lent.result c.lent-lent.ensures
+    (c.try_lift.ensures m.blocks.now)

@@ -8,5 +8,5 @@ pub returns : goal.returns
 returns g c =
     let m = c.args.memory in
     promised g.A.Kind.holds g.R.Kind.holds g.A.Kind.plain g.R.Kind.plain g.met.A.Kind.decided g.met.A.Kind.inhabited c.args.self.now c.args.self.now (stored m.rules.now m.blocks.now m.properties.now) _ (Send c.args.header)
-    (lent_of m.rules.now m.blocks.now m.properties.now m.packet_frames.now m.address_frames.now) passage_answer sent_plain c.try-send.result c.sent.result c.sent.ensures c.lent-lent.result c.lent-lent.ensures
-    (c.try-send.ensures m.properties.now)
+    (lent_of m.rules.now m.blocks.now m.properties.now m.packet_frames.now m.address_frames.now) passage_answer sent_plain c.try_send.result c.sent.result c.sent.ensures c.lent-lent.result c.lent-lent.ensures
+    (c.try_send.ensures m.properties.now)

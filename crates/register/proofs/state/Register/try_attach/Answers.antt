@@ -9,60 +9,60 @@ use Rattle.register.proofs.Attaching.{attach_nowhere, attach_badly, attach_full,
 use Rattle.register.proofs.Tries.{tried_exit, tried_exit_short, reached_grown}
 use Rattle.register.proofs.state.Register.try_attach.Goals as goal
 
-pub returns-in-err-check-lengths : goal.returns-in-err-check-lengths
-returns-in-err-check-lengths g c b p =
-    let cause = c.in-err-check-lengths.ensures in
+pub returns-in_err-check_lengths : goal.returns-in_err-check_lengths
+returns-in_err-check_lengths g c b p =
+    let cause = c.in_err-check_lengths.ensures in
     tried_exit_short g.A.Kind.holds g.R.Kind.holds g.A.Kind.plain g.R.Kind.plain (Attach c.args.domain c.args.upper c.args.lower c.args.decision) c.args.lent attached_as
-    c.args.self.now (stored c.args.rules.now b p) _ cause.0 c.from-residual.result c.from-residual.ensures.1 cause.1
+    c.args.self.now (stored c.args.rules.now b p) _ cause.0 c.from_residual.result c.from_residual.ensures.1 cause.1
 
-pub returns-in-err-check-domain : goal.returns-in-err-check-domain
-returns-in-err-check-domain g c b p =
-    let cause = c.in-err-check-domain.ensures in
-    let long = c.in-ok-check-lengths.ensures in
+pub returns-in_err-check_domain : goal.returns-in_err-check_domain
+returns-in_err-check_domain g c b p =
+    let cause = c.in_err-check_domain.ensures in
+    let long = c.in_ok-check_lengths.ensures in
     let s = stored c.args.rules.now b p in
     tried_exit g.A.Kind.holds g.R.Kind.holds g.A.Kind.plain g.R.Kind.plain (Attach c.args.domain c.args.upper c.args.lower c.args.decision) c.args.lent attached_as
-    c.args.self.now s _ NoSuch cause.0 c.from-residual-in-err-check-domain.result c.from-residual-in-err-check-domain.ensures.1 long
+    c.args.self.now s _ NoSuch cause.0 c.from_residual-in_err-check_domain.result c.from_residual-in_err-check_domain.ensures.1 long
     (λ t reached pic. attach_nowhere g.A.Kind.holds g.R.Kind.holds g.A.Kind.plain g.R.Kind.plain c.args.self.now s t pic c.args.domain c.args.upper c.args.lower c.args.decision c.args.lent long cause.1)
 
-pub returns-in-err-check-interfaces : goal.returns-in-err-check-interfaces
-returns-in-err-check-interfaces g c b p =
-    let cause = c.in-err-check-interfaces.ensures in
-    let long = c.in-ok-check-lengths.ensures in
-    let there = c.in-ok-check-domain.ensures in
+pub returns-in_err-check_interfaces : goal.returns-in_err-check_interfaces
+returns-in_err-check_interfaces g c b p =
+    let cause = c.in_err-check_interfaces.ensures in
+    let long = c.in_ok-check_lengths.ensures in
+    let there = c.in_ok-check_domain.ensures in
     let s = stored c.args.rules.now b p in
     tried_exit g.A.Kind.holds g.R.Kind.holds g.A.Kind.plain g.R.Kind.plain (Attach c.args.domain c.args.upper c.args.lower c.args.decision) c.args.lent attached_as
-    c.args.self.now s _ BadInterface cause.0 c.from-residual-in-err-check-interfaces.result c.from-residual-in-err-check-interfaces.ensures.1 long
+    c.args.self.now s _ BadInterface cause.0 c.from_residual-in_err-check_interfaces.result c.from_residual-in_err-check_interfaces.ensures.1 long
     (λ t reached pic. attach_badly g.A.Kind.holds g.R.Kind.holds g.A.Kind.plain g.R.Kind.plain c.args.self.now s t pic c.args.domain c.args.upper c.args.lower c.args.decision c.args.lent long there cause.1)
 
-pub returns-in-err-check-attach-room : goal.returns-in-err-check-attach-room
-returns-in-err-check-attach-room g c b p =
-    let cause = c.in-err-check-attach-room.ensures in
-    let long = c.in-ok-check-lengths.ensures in
-    let there = c.in-ok-check-domain.ensures in
-    let apart = c.in-ok-check-interfaces.ensures in
+pub returns-in_err-check_attach_room : goal.returns-in_err-check_attach_room
+returns-in_err-check_attach_room g c b p =
+    let cause = c.in_err-check_attach_room.ensures in
+    let long = c.in_ok-check_lengths.ensures in
+    let there = c.in_ok-check_domain.ensures in
+    let apart = c.in_ok-check_interfaces.ensures in
     let s = stored c.args.rules.now b p in
     tried_exit g.A.Kind.holds g.R.Kind.holds g.A.Kind.plain g.R.Kind.plain (Attach c.args.domain c.args.upper c.args.lower c.args.decision) c.args.lent attached_as
-    c.args.self.now s _ Full cause.0 c.from-residual-in-err-check-attach-room.result c.from-residual-in-err-check-attach-room.ensures.1 long
+    c.args.self.now s _ Full cause.0 c.from_residual-in_err-check_attach_room.result c.from_residual-in_err-check_attach_room.ensures.1 long
     (λ t reached pic. attach_full g.A.Kind.holds g.R.Kind.holds g.A.Kind.plain g.R.Kind.plain c.args.self.now s t pic c.args.domain c.args.upper c.args.lower c.args.decision c.args.lent long there apart cause.1)
 
 pub returns-in-Err : goal.returns-in-Err
 returns-in-Err g c b p =
     let tree = c.args.self.now.tree in
-    absurd (attach_sure tree c.attach.new.self c.args.domain c.args.upper c.args.lower c.in-Err.refusal (domain_there tree c.args.domain c.in-ok-check-domain.ensures)
-    (interfaces_apart c.args.upper c.args.lower c.in-ok-check-interfaces.ensures) (λ h. c.in-ok-check-attach-room.ensures (inl h)) c.in-Err.ensures)
+    absurd (attach_sure tree c.attach.new.self c.args.domain c.args.upper c.args.lower c.in-Err.refusal (domain_there tree c.args.domain c.in_ok-check_domain.ensures)
+    (interfaces_apart c.args.upper c.args.lower c.in_ok-check_interfaces.ensures) (λ h. c.in_ok-check_attach_room.ensures (inl h)) c.in-Err.ensures)
 
 pub returns-in-Ok : goal.returns-in-Ok
 returns-in-Ok g c b p =
-    let long = c.in-ok-check-lengths.ensures in
-    let there = c.in-ok-check-domain.ensures in
-    let apart = c.in-ok-check-interfaces.ensures in
-    let room = c.in-ok-check-attach-room.ensures in
+    let long = c.in_ok-check_lengths.ensures in
+    let there = c.in_ok-check_domain.ensures in
+    let apart = c.in_ok-check_interfaces.ensures in
+    let room = c.in_ok-check_attach_room.ensures in
     let was = c.args.self.now in
     let s = stored c.args.rules.now b p in
     let w = c.args.decision in
     let a = c.in-Ok.ensures in
-    let written = attach_rows g.A.Kind.plain g.R.Kind.plain was w c.args.lent long (λ h. room (inr h)) c.args.rules.now c.replace-row.new.rows c.requires c.total-total.result c.rule-row-row.result c.catch-all.result
-    c.total-total.ensures c.rule-row-row.ensures c.catch-all.ensures c.replace-row.result c.replace-row.ensures.there c.replace-row.ensures.after in
+    let written = attach_rows g.A.Kind.plain g.R.Kind.plain was w c.args.lent long (λ h. room (inr h)) c.args.rules.now c.replace_row.new.rows c.requires c.total-total.result c.rule_row-row.result c.catch_all.result
+    c.total-total.ensures c.rule_row-row.ensures c.catch_all.ensures c.replace_row.result c.replace_row.ensures.there c.replace_row.ensures.after in
     record {
       turns = λ t reached pic.
           let grown = reached_grown g.A.Kind.holds g.R.Kind.holds t reached in
@@ -73,7 +73,7 @@ returns-in-Ok g c b p =
               addresses = pic.addresses;
               rests = pic.rests;
               shape = a.5 ∙ ap (λ z. attached z c.args.domain c.args.upper c.args.lower) pic.shape;
-              lists = attach_lists g.A.Kind.holds g.R.Kind.holds g.A.Kind.plain g.R.Kind.plain was s t pic c.args.domain c.args.upper c.args.lower w c.args.lent long _ c.replace-row.new.rows c.requires (λ h. room (inr h)) lens written;
+              lists = attach_lists g.A.Kind.holds g.R.Kind.holds g.A.Kind.plain g.R.Kind.plain was s t pic c.args.domain c.args.upper c.args.lower w c.args.lent long _ c.replace_row.new.rows c.requires (λ h. room (inr h)) lens written;
               block_count = pic.block_count;
               blocks = pic.blocks;
               property_count = pic.property_count;

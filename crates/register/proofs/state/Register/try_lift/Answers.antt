@@ -7,80 +7,80 @@ use Rattle.register.specs.Edits.{There, list_length, stored}
 use Rattle.register.proofs.Edits.{rows_within, opened_tried, lift_done, lift_undone}
 use Rattle.register.proofs.state.Register.try_lift.Goals as goal
 
-pub returns-in-err-check-lift : goal.returns-in-err-check-lift
-returns-in-err-check-lift g c blocks =
-    let e = err_from_is_err_and c.from-residual.result c.from-residual.ensures.1 in
+pub returns-in_err-check_lift : goal.returns-in_err-check_lift
+returns-in_err-check_lift g c blocks =
+    let e = err_from_is_err_and c.from_residual.result c.from_residual.ensures.1 in
     let was = c.args.self.now in
     let f = c.args.firewall in
     rw (e.1, e.2)
     (opened_tried g.A.Kind.holds g.R.Kind.holds g.A.Kind.plain g.R.Kind.plain was c.args.lent (Lift f c.args.position) 10
-    (There was c.args.lent f (list_length was f) c.args.position) _ c.in-err-check-lift.ensures (stored c.args.rules.now blocks c.args.properties.now))
+    (There was c.args.lent f (list_length was f) c.args.position) _ c.in_err-check_lift.ensures (stored c.args.rules.now blocks c.args.properties.now))
 
-pub overflow-sub-size : goal.overflow-sub-size
-overflow-sub-size g c =
-    let there = c.in-ok-check-lift.ensures.fits in
+pub overflow_sub-size : goal.overflow_sub-size
+overflow_sub-size g c =
+    let there = c.in_ok-check_lift.ensures.fits in
     let at = there.position in
     omega (arith, c.length-size.ensures)
 
-pub overflow-add-at : goal.overflow-add-at
-overflow-add-at g c =
-    let there = c.in-ok-check-lift.ensures.fits in
+pub overflow_add-at : goal.overflow_add-at
+overflow_add-at g c =
+    let there = c.in_ok-check_lift.ensures.fits in
     let fits = rows_within c.args.self.now c.args.lent there.long c.args.firewall in
     let at = there.position in
     omega (arith, c.start-start.ensures)
 
-pub take-out-row-requires : goal.take-out-row-requires
-take-out-row-requires g c =
-    let there = c.in-ok-check-lift.ensures.fits in
+pub take_out-row-requires : goal.take_out-row-requires
+take_out-row-requires g c =
+    let there = c.in_ok-check_lift.ensures.fits in
     let fits = rows_within c.args.self.now c.args.lent there.long c.args.firewall in
     let at = there.position in
     record { low = omega (arith, c.start-start.ensures, c.total-used.ensures); room = omega (arith, c.total-used.ensures, c.requires.rows) }
 
 pub part-requires : goal.part-requires
 part-requires g c =
-    let there = c.in-ok-check-lift.ensures.fits in
+    let there = c.in_ok-check_lift.ensures.fits in
     let fits = rows_within c.args.self.now c.args.lent there.long c.args.firewall in
-    omega (arith, c.start-start.ensures, c.length-size.ensures, c.requires.rows, c.take-out-row.auto.rows)
+    omega (arith, c.start-start.ensures, c.length-size.ensures, c.requires.rows, c.take_out-row.auto.rows)
 
-pub check-edited-requires : goal.check-edited-requires
-check-edited-requires g c =
-    let there = c.in-ok-check-lift.ensures.fits in
+pub check_edited-requires : goal.check_edited-requires
+check_edited-requires g c =
+    let there = c.in_ok-check_lift.ensures.fits in
     let fits = rows_within c.args.self.now c.args.lent there.long c.args.firewall in
     omega (arith, c.requires.standing)
 
-pub overflow-sub-used : goal.overflow-sub-used
-overflow-sub-used g c =
-    let there = c.in-ok-check-lift.ensures.fits in
+pub overflow_sub-used : goal.overflow_sub-used
+overflow_sub-used g c =
+    let there = c.in_ok-check_lift.ensures.fits in
     let fits = rows_within c.args.self.now c.args.lent there.long c.args.firewall in
     let at = there.position in
     omega (arith, c.total-used.ensures)
 
-pub put-in-requires : goal.put-in-requires
-put-in-requires g c =
-    let there = c.in-ok-check-lift.ensures.fits in
+pub put_in-requires : goal.put_in-requires
+put_in-requires g c =
+    let there = c.in_ok-check_lift.ensures.fits in
     let fits = rows_within c.args.self.now c.args.lent there.long c.args.firewall in
     let at = there.position in
-    record { low = omega (arith, c.start-start.ensures, c.total-used.ensures); room = omega (arith, c.total-used.ensures, c.requires.rows, c.take-out-row.auto.rows) }
+    record { low = omega (arith, c.start-start.ensures, c.total-used.ensures); room = omega (arith, c.total-used.ensures, c.requires.rows, c.take_out-row.auto.rows) }
 
 pub returns-in-Ok : goal.returns-in-Ok
 returns-in-Ok g c blocks =
-    let there = c.in-ok-check-lift.ensures.fits in
-    let rows = c.take-out-row.new.rows in
+    let there = c.in_ok-check_lift.ensures.fits in
+    let rows = c.take_out-row.new.rows in
     lift_done g.A.Kind.holds g.R.Kind.holds g.A.Kind.plain g.R.Kind.plain c.args.self.now c.args.lent c.args.rules.now rows blocks c.args.properties.now
     c.args.firewall c.args.position there c.requires.rows (length c.args.frames.now) c.requires.room
-    (c.take-out-row.ensures.after ∙ (λ i. row_out (c.total-used.ensures i) (c.start-start.ensures i + c.args.position) c.args.rules.now))
-    c.in-ok-check-lift.ensures.right tt
+    (c.take_out-row.ensures.after ∙ (λ i. row_out (c.total-used.ensures i) (c.start-start.ensures i + c.args.position) c.args.rules.now))
+    c.in_ok-check_lift.ensures.right tt
     (λ t rs stands is. c.in-Ok.ensures t rs stands (c.part.ensures ∙ (λ i. take (c.length-size.ensures i - 1) (drop (c.start-start.ensures i) rows)) ∙ is))
     _ (record { addresses = refl; rests = refl; tree = refl; block_count = refl; property_count = refl }) c.shrink.result c.shrink.ensures.some c.shrink.ensures.after
 
 pub returns-in-Err : goal.returns-in-Err
 returns-in-Err g c blocks =
-    let there = c.in-ok-check-lift.ensures.fits in
-    let rows = c.take-out-row.new.rows in
+    let there = c.in_ok-check_lift.ensures.fits in
+    let rows = c.take_out-row.new.rows in
     lift_undone g.A.Kind.holds g.R.Kind.holds g.A.Kind.plain g.R.Kind.plain c.args.self.now c.args.lent c.args.rules.now rows blocks c.args.properties.now
     c.args.firewall c.args.position there c.requires.rows (length c.args.frames.now) c.requires.room
-    (c.take-out-row.ensures.after ∙ (λ i. row_out (c.total-used.ensures i) (c.start-start.ensures i + c.args.position) c.args.rules.now))
-    c.in-ok-check-lift.ensures.right c.in-Err.refusal
+    (c.take_out-row.ensures.after ∙ (λ i. row_out (c.total-used.ensures i) (c.start-start.ensures i + c.args.position) c.args.rules.now))
+    c.in_ok-check_lift.ensures.right c.in-Err.refusal
     (λ t rs stands is. c.in-Err.ensures t rs stands (c.part.ensures ∙ (λ i. take (c.length-size.ensures i - 1) (drop (c.start-start.ensures i) rows)) ∙ is))
-    c.take-out-row.result (subst (λ n. slice_get c.args.rules.now (n + c.args.position) ≡ Some c.take-out-row.result) c.start-start.ensures c.take-out-row.ensures.before)
-    c.put-in.new.rows (c.put-in.ensures.after ∙ (λ i. row_in (c.total-used.ensures i - 1) (c.start-start.ensures i + c.args.position) c.take-out-row.result rows))
+    c.take_out-row.result (subst (λ n. slice_get c.args.rules.now (n + c.args.position) ≡ Some c.take_out-row.result) c.start-start.ensures c.take_out-row.ensures.before)
+    c.put_in.new.rows (c.put_in.ensures.after ∙ (λ i. row_in (c.total-used.ensures i - 1) (c.start-start.ensures i + c.args.position) c.take_out-row.result rows))

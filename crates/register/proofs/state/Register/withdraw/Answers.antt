@@ -8,6 +8,6 @@ use Rattle.register.proofs.state.Register.withdraw.Goals as goal
 pub returns : goal.returns
 returns g c =
     let m = c.args.memory in
-    promised g.A.Kind.holds g.R.Kind.holds g.A.Kind.plain g.R.Kind.plain g.met.A.Kind.decided g.met.A.Kind.inhabited c.args.self.now c.try-withdraw.new.self (stored m.rules.now m.blocks.now m.properties.now) _ (Withdraw c.args.property)
-    (lent_of m.rules.now m.blocks.now m.properties.now m.packet_frames.now m.address_frames.now) (λ _. Done) (λ x. refl) c.try-withdraw.result c.done.result c.done.ensures c.lent-lent.result c.lent-lent.ensures
-    (c.try-withdraw.ensures m.rules.now m.blocks.now)
+    promised g.A.Kind.holds g.R.Kind.holds g.A.Kind.plain g.R.Kind.plain g.met.A.Kind.decided g.met.A.Kind.inhabited c.args.self.now c.try_withdraw.new.self (stored m.rules.now m.blocks.now m.properties.now) _ (Withdraw c.args.property)
+    (lent_of m.rules.now m.blocks.now m.properties.now m.packet_frames.now m.address_frames.now) (λ _. Done) (λ x. refl) c.try_withdraw.result c.done.result c.done.ensures c.lent-lent.result c.lent-lent.ensures
+    (c.try_withdraw.ensures m.rules.now m.blocks.now)

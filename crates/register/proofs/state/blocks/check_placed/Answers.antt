@@ -5,10 +5,10 @@ use Rattle.verdicts.specs.Misplaced.{MisplacedFound}
 use Rattle.register.proofs.state.blocks.check_placed.Goals as goal
 
 -- there are more frames than blocks
-pub returns-in-default : goal.returns-in-default
-returns-in-default g c t ok is are =
+pub returns-in_default : goal.returns-in_default
+returns-in_default g c t ok is are =
     let rows = ap (λ n. take n c.args.blocks.now) (sub-zero c.args.used) ∙ is in
-    let few = c.in-default.ensures t ok rows (ap (λ n. take n c.args.properties.now) (sub-zero c.args.standing) ∙ are) in
+    let few = c.in_default.ensures t ok rows (ap (λ n. take n c.args.properties.now) (sub-zero c.args.standing) ∙ are) in
     let size = ap length is ∙ length-map t.blocks _ in
     let all = length-take-le c.args.used c.args.blocks.now c.requires.0 in
     absurd (omega arith)

@@ -9,4 +9,4 @@ pub returns-then-own-firewall : goal.returns-then-own-firewall
 returns-then-own-firewall t c = branch_own c.args.self.now c.args.domain (omega arith) (omega arith) c.args.firewall c.if-own-firewall.true
 
 pub returns : goal.returns
-returns t c = branch_more c.args.self.now c.args.domain (omega arith) (omega arith) c.args.firewall c.branch-toward.result c.if-own-firewall.false c.branch-toward.ensures
+returns t c = branch_more c.args.self.now c.args.domain (omega arith) (omega arith) c.args.firewall c.branch_toward.result c.if-own-firewall.false c.branch_toward.ensures

@@ -1,4 +1,4 @@
 use Rattle.tree.proofs.table.TreeTable.+branch_toward.Given as goal
 
-abbrev pub decreases-branch-toward : goal.decreases-branch-toward
-decreases-branch-toward l = l.domain
+abbrev pub decreases-branch_toward : goal.decreases-branch_toward
+decreases-branch_toward l = l.domain

@@ -9,4 +9,4 @@ pub returns-then-above-top : goal.returns-then-above-top
 returns-then-above-top t c = child_own c.args.self.now c.args.domain (omega arith) (omega arith) c.args.top c.if-above-top.true
 
 pub returns : goal.returns
-returns t c = child_more c.args.self.now c.args.domain (omega arith) (omega arith) c.args.top c.child-toward.result c.if-above-top.false c.child-toward.ensures
+returns t c = child_more c.args.self.now c.args.domain (omega arith) (omega arith) c.args.top c.child_toward.result c.if-above-top.false c.child_toward.ensures

@@ -1,4 +1,4 @@
 use Rattle.tree.proofs.table.TreeTable.+child_toward.Given as goal
 
-abbrev pub decreases-child-toward : goal.decreases-child-toward
-decreases-child-toward l = l.domain
+abbrev pub decreases-child_toward : goal.decreases-child_toward
+decreases-child_toward l = l.domain

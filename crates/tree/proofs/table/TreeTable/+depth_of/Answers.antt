@@ -9,4 +9,4 @@ returns-then-domain-eq0 t c = (omega arith, top (omega arith) refl)
 pub returns : goal.returns
 returns t c =
     let falls = above_falls c.args.self.now c.args.domain (omega arith) (omega arith) in
-    (omega arith, depth_more c.args.self.now c.args.domain (omega arith) (omega arith) c.depth-of.result c.depth-of.ensures.1)
+    (omega arith, depth_more c.args.self.now c.args.domain (omega arith) (omega arith) c.depth_of.result c.depth_of.ensures.1)

@@ -1,4 +1,4 @@
 use Rattle.tree.proofs.table.TreeTable.+depth_of.Given as goal
 
-abbrev pub decreases-depth-of : goal.decreases-depth-of
-decreases-depth-of l = l.domain
+abbrev pub decreases-depth_of : goal.decreases-depth_of
+decreases-depth_of l = l.domain

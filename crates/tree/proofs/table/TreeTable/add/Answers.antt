@@ -7,8 +7,8 @@ use Rattle.tree.proofs.Rows.{low_more, single_more, below_more, falling_more, lo
 use Rattle.tree.proofs.Tables.{shape_branched, count_domains, lies_by, hangs_by}
 use Rattle.tree.proofs.table.TreeTable.add.Goals as goal
 
-pub invariant-of-self : goal.invariant-of-self
-invariant-of-self c =
+pub invariant_of-self : goal.invariant_of-self
+invariant_of-self c =
     let t = c.args.self.now in
     let n : ℕ = t.firewall_count in
     let m : ℕ = t.domain_count in

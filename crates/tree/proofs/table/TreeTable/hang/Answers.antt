@@ -4,8 +4,8 @@ use Rattle.tree.proofs.Rows.{low_more, single_more, hung_more, below_more, falli
 use Rattle.tree.proofs.Tables.{shape_attached, count_domains, count_firewalls}
 use Rattle.tree.proofs.table.TreeTable.hang.Goals as goal
 
-pub invariant-of-self : goal.invariant-of-self
-invariant-of-self c =
+pub invariant_of-self : goal.invariant_of-self
+invariant_of-self c =
     let t = c.args.self.now in
     let n : ℕ = t.firewall_count in
     let m : ℕ = t.domain_count in

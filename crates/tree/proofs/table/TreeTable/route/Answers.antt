@@ -14,7 +14,7 @@ loop-at-smaller c =
     omega arith
 
 pub loop-at-preserved : goal.loop-at-preserved
-loop-at-preserved c = (on_next c.args.self.now c.args.from c.args.to c.loop-at.hops c.loop-at.count c.loop-at.at c.hop-toward-hop.result c.loop-at.invariant c.loop-at-test.true c.hop-toward-hop.ensures).1
+loop-at-preserved c = (on_next c.args.self.now c.args.from c.args.to c.loop-at.hops c.loop-at.count c.loop-at.at c.hop_toward-hop.result c.loop-at.invariant c.loop-at-test.true c.hop_toward-hop.ensures).1
 
 pub returns : goal.returns
 returns c = on_end c.args.self.now c.args.from c.args.to c.loop-at.hops c.loop-at.count c.loop-at.at c.loop-at.invariant c.loop-at-test.false

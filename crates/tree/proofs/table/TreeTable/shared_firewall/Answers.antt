@@ -4,7 +4,7 @@ use native.Mathlib.Decide.{ℕ_discrete}
 use Rattle.model.specs.Shape.{Joined}
 use Rattle.tree.specs.Table.{shape_of}
 use Rattle.tree.proofs.table.TreeTable.shared_firewall.Goals as goal
-use Rattle.tree.proofs.table.TreeTable.shared_firewall.Goals.{in-Some+in-default-is-joined, in-default}
+use Rattle.tree.proofs.table.TreeTable.shared_firewall.Goals.{in-Some+in_default-is_joined, in_default}
 
 pub loop-firewall-preserved : goal.loop-firewall-preserved
 loop-firewall-preserved c f i j less a b = elim (ℕ_discrete f c.loop-firewall.firewall) [
@@ -12,9 +12,9 @@ loop-firewall-preserved c f i j less a b = elim (ℕ_discrete f c.loop-firewall.
   | yes same ↦
       let one = subst (λ x. Joined (shape_of c.args.self.now) x c.args.one i) same a in
       let two = subst (λ x. Joined (shape_of c.args.self.now) x c.args.other j) same b in
-      elim c.match-is-joined.branch [
-        | in-Some+in-default-is-joined w ↦ w.in-default-is-joined.ensures j two
-        | in-default w ↦ w.in-default.ensures i one
+      elim c.match-is_joined.branch [
+        | in-Some+in_default-is_joined w ↦ w.in_default-is_joined.ensures j two
+        | in_default w ↦ w.in_default.ensures i one
       ]
 ]
 

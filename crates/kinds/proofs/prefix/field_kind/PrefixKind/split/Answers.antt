@@ -5,24 +5,24 @@ use Rattle.kinds.specs.FirstBits.{parted_at, unsplit_in, disjoint_in, half_fits,
 use Rattle.kinds.proofs.prefix.field_kind.PrefixKind.split.Goals as goal
 use Rattle.kinds.proofs.prefix.field_kind.PrefixKind.split.Goals.{else-self-other-via-then-self-other+else-has as then-self-other·else-has, else-self-other-via-else-self-other as else-self-other}
 
-pub overflow-add-upper : goal.overflow-add-upper
-overflow-add-upper c =
+pub overflow_add-upper : goal.overflow_add-upper
+overflow_add-upper c =
     let x = c.args.self in
     let half = one_shl (32 - (x.length + 1)) 32 (omega arith) in
     let small : x.address < 2 ^ 32 = search rules in
     let sum = half_fits x.address (32 - x.length) (32 - (x.length + 1)) (omega arith) (omega arith) small x.clean in
     search rules
 
-pub invariant-of-result : goal.invariant-of-result
-invariant-of-result c =
+pub invariant_of-result : goal.invariant_of-result
+invariant_of-result c =
     let x = c.args.self in
-    (omega arith, (clean_low x.address (32 - x.length) (32 - (x.length + 1)) (omega arith) x.clean, tt))
+    record { short = omega arith; clean = clean_low x.address (32 - x.length) (32 - (x.length + 1)) (omega arith) x.clean }
 
-pub invariant-of-result-then-has : goal.invariant-of-result-then-has
-invariant-of-result-then-has c =
+pub invariant_of-result-then-has : goal.invariant_of-result-then-has
+invariant_of-result-then-has c =
     let x = c.args.self in
     let half = one_shl (32 - (x.length + 1)) 32 (omega arith) in
-    (omega arith, (clean_high x.address (32 - x.length) (32 - (x.length + 1)) _ (omega arith) half x.clean, tt))
+    record { short = omega arith; clean = clean_high x.address (32 - x.length) (32 - (x.length + 1)) _ (omega arith) half x.clean }
 
 pub returns-then-has : goal.returns-then-has
 returns-then-has c =

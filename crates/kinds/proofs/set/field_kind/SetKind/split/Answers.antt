@@ -3,10 +3,10 @@ use Rattle.std.proofs.lemmas.Nat.{and_le_l, xor_lt}
 use Rattle.kinds.specs.Masks.{parted_bits, unsplit_bits}
 use Rattle.kinds.proofs.set.field_kind.SetKind.split.Goals as goal
 
-pub invariant-of-result-then-others-ne0 : goal.invariant-of-result-then-others-ne0
-invariant-of-result-then-others-ne0 c =
+pub invariant_of-result-then-others-ne0 : goal.invariant_of-result-then-others-ne0
+invariant_of-result-then-others-ne0 c =
     let few = c.args.self.few in
-    (omega arith, (xor_lt 32 _ _ few (omega (arith, and_le_l c.args.self.mask c.args.other.mask)), tt))
+    record { some = omega arith; few = xor_lt 32 _ _ few (omega (arith, and_le_l c.args.self.mask c.args.other.mask)) }
 
 pub returns-then-others-ne0 : goal.returns-then-others-ne0
 returns-then-others-ne0 c = parted_bits c.args.self.mask c.args.other.mask c.args.self.few (omega arith) (omega arith)
