@@ -24,8 +24,8 @@ loop-count-init g c =
 pub read_slot-top-requires : goal.read_slot-top-requires
 read_slot-top-requires g c = omega (arith, c.loop-count.invariant.few)
 
-pub unreachable_requires : goal.unreachable-requires
-unreachable_requires g c =
+pub unreachable-requires : goal.unreachable-requires
+unreachable-requires g c =
     let top = top_ok _ _ _ _ (omega arith) c.read_slot-top.ensures c.loop-count.invariant in
     let reads = top.reads in
     let read = c.read.ensures in

@@ -3,5 +3,5 @@ use Rattle.search.specs.List.{row_holds}
 use Rattle.search.proofs.Walks.{Wanted}
 use Rattle.search.proofs.walk.is_hopeless.Given as goal
 
-abbrev pub invariant_loop_position : goal.invariant-loop-position
-invariant_loop_position g l = Before (Wanted (row_holds g.K.Kind.holds g.K.Kind.region) l.list (g.K.Kind.holds l.region) l.wish) l.list l.position
+abbrev pub invariant-loop-position : goal.invariant-loop-position
+invariant-loop-position g l = Before (Wanted (row_holds g.K.Kind.holds g.K.Kind.region) l.list (g.K.Kind.holds l.region) l.wish) l.list l.position

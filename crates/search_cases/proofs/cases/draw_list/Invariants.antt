@@ -1,5 +1,5 @@
 use Rattle.std.proofs.Common.{◌≡◌, vec_len}
 use Rattle.search_cases.proofs.cases.draw_list.Given as goal
 
-abbrev pub invariant_loop_position : goal.invariant-loop-position
-invariant_loop_position g l = vec_len l.list ≡ l.-position
+abbrev pub invariant-loop-position : goal.invariant-loop-position
+invariant-loop-position g l = vec_len l.list ≡ l.-position

@@ -20,8 +20,8 @@ returns-in-Some-hop_at g c t rs same less is kept =
     let (k, at) = c.in-Some-hop_at.ensures in
     found_here g.A.Kind.holds g.R.Kind.holds t c.args.firewall rs p ok hs route kept less k c.in-Some-hop_at.hop at (length c.args.frames.now) c.find_break.result (c.find_break.ensures rs is)
 
-pub returns_in_None : goal.returns-in-None
-returns_in_None g c t rs same less is kept =
+pub returns-in-None : goal.returns-in-None
+returns-in-None g c t rs same less is kept =
     let p = c.args.property in
     let ok = subst Sound same (sound_of c.args.tree.now) in
     let hs = hops_of c.in-Some.route in

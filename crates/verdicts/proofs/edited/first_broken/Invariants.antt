@@ -11,8 +11,8 @@ use Rattle.checks.specs.Rows.{property_row, rule_entry}
 use Rattle.verdicts.proofs.edited.first_broken.Given as goal
 
 -- no property so far would be broken
-abbrev pub invariant_loop_index : goal.invariant-loop-index
-invariant_loop_index g l =
+abbrev pub invariant-loop-index : goal.invariant-loop-index
+invariant-loop-index g l =
     (t : Tree g.row.A.Denot g.row.R.Denot) (rs : List (Rule g.row.A.Denot g.row.R.Denot)) → shape_of l.tree ≡ t.shape → l.firewall < length t.lists
     → l.list ≡ map (rule_entry g.A.Kind.plain g.R.Kind.plain) rs → l.properties ≡ map (property_row g.A.Kind.plain g.R.Kind.plain) t.properties
     → ((n : ℕ) (p : Property g.row.A.Denot g.row.R.Denot) → slice_get t.properties n ≡ Some p → Kept g.A.Kind.holds g.R.Kind.holds t p)

@@ -4,8 +4,8 @@ use Rattle.verdicts.specs.Misplaced.{SourceFound}
 use Rattle.verdicts.proofs.Strays.{then_destination}
 use Rattle.verdicts.proofs.misplaced.astray_in.Goals as goal
 
-pub returns_in_None : goal.returns-in-None
-returns_in_None g c t ok is =
+pub returns-in-None : goal.returns-in-None
+returns-in-None g c t ok is =
     let p = c.args.property in
     let found = subst (λ n. AstrayFound g.A.Kind.holds g.R.Kind.holds t p.destination p.to n c.find_foreign.result) c.source_astray.auto.frames (c.find_foreign.ensures t ok is) in
     let none = subst (λ o. SourceFound g.A.Kind.holds g.R.Kind.holds t p (length c.args.frames.now) (Ok o)) c.in-None.is (c.in_ok-in_source.ensures t ok is) in

@@ -7,7 +7,7 @@ use Rattle.checks.specs.Rows.{block_entry, property_row}
 use Rattle.verdicts.proofs.misplaced.first_misplaced.Given as goal
 
 -- no property so far is misplaced
-abbrev pub invariant_loop_index : goal.invariant-loop-index
-invariant_loop_index g l =
+abbrev pub invariant-loop-index : goal.invariant-loop-index
+invariant-loop-index g l =
     (t : Tree g.row.A.Denot g.row.R.Denot) → OwnedApart g.A.Kind.holds t.blocks → l.blocks ≡ map (block_entry g.A.Kind.plain) t.blocks
     → l.properties ≡ map (property_row g.A.Kind.plain g.R.Kind.plain) t.properties → Before (SomeAstray g.A.Kind.holds g.R.Kind.holds t) t.properties l.index

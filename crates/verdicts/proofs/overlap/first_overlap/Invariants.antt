@@ -4,5 +4,5 @@ use Rattle.verdicts.specs.Overlap.{RowShares}
 use Rattle.verdicts.proofs.overlap.first_overlap.Given as goal
 
 -- no block so far shares an address with the region
-abbrev pub invariant_loop_index : goal.invariant-loop-index
-invariant_loop_index g l = Before (λ (e : Entry g.row.A-Row.Denot). RowShares g.A.Kind.holds g.A.Kind.region l.region e.row) l.blocks l.index
+abbrev pub invariant-loop-index : goal.invariant-loop-index
+invariant-loop-index g l = Before (λ (e : Entry g.row.A-Row.Denot). RowShares g.A.Kind.holds g.A.Kind.region l.region e.row) l.blocks l.index

@@ -11,8 +11,8 @@ returns-in-Some g c t shape laid is there =
     let hops = hops_of c.in-Some.route in
     sent_along g.A.Kind.holds g.R.Kind.holds t c.args.header u v (c.domain_of-from.ensures t is) (c.domain_of-to.ensures t is) hops (subst (λ s. Route s u v hops) shape c.in-Some.ensures) c.passage_on.result (c.passage_on.ensures t laid)
 
-pub returns_in_None : goal.returns-in-None
-returns_in_None g c t shape laid is there =
+pub returns-in-None : goal.returns-in-None
+returns-in-None g c t shape laid is there =
     let u = c.domain_of-from.result in
     let v = c.domain_of-to.result in
     let none = subst (λ s. Domain s u × Domain s v → ⊥) shape c.in-None.ensures in

@@ -8,7 +8,7 @@ use Rattle.checks.specs.Rows.{rule_entry}
 use Rattle.verdicts.proofs.passage.passage_on.Given as goal
 
 -- no firewall so far discards the header
-abbrev pub invariant_loop_index : goal.invariant-loop-index
-invariant_loop_index g l =
+abbrev pub invariant-loop-index : goal.invariant-loop-index
+invariant-loop-index g l =
     (t : Tree g.row.A.Denot g.row.R.Denot) → Laid (rule_entry g.A.Kind.plain g.R.Kind.plain) (lengths_of l.lists) l.rules t.lists
     → Before (Stops g.A.Kind.holds g.R.Kind.holds t l.header) (hops_of l.route) l.index

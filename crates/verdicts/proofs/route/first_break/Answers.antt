@@ -11,7 +11,7 @@ returns-in-Some g c t shape laid =
     let hops = hops_of c.in-Some.route in
     asked_found g.A.Kind.holds g.R.Kind.holds t p (subst Sound shape (sound_of c.args.tree.now)) hops (subst (λ s. Route s p.from p.to hops) shape c.in-Some.ensures) (length c.args.frames.now) c.break_on.result (c.break_on.ensures t laid)
 
-pub returns_in_None : goal.returns-in-None
-returns_in_None g c t shape laid =
+pub returns-in-None : goal.returns-in-None
+returns-in-None g c t shape laid =
     let p = c.args.property in
     unrouted_kept g.A.Kind.holds g.R.Kind.holds t p (subst Sound shape (sound_of c.args.tree.now)) (subst (λ s. Domain s p.from × Domain s p.to → ⊥) shape c.in-None.ensures)

@@ -2,8 +2,8 @@ use Rattle.std.proofs.Common.{length, Ok, refl, subst, inr}
 use Rattle.verdicts.specs.Asked.{AskedFound}
 use Rattle.register.proofs.state.Register.check_offer_kept.Goals as goal
 
-pub returns_in_None : goal.returns-in-None
-returns_in_None g c t shape laid = subst (λ o. AskedFound g.A.Kind.holds g.R.Kind.holds t c.args.property (length c.args.frames.now) (Ok o)) c.in-None.is (c.in-Ok.ensures t shape laid)
+pub returns-in-None : goal.returns-in-None
+returns-in-None g c t shape laid = subst (λ o. AskedFound g.A.Kind.holds g.R.Kind.holds t c.args.property (length c.args.frames.now) (Ok o)) c.in-None.is (c.in-Ok.ensures t shape laid)
 
 pub returns-in-Some : goal.returns-in-Some
 returns-in-Some g c t shape laid =

@@ -7,5 +7,5 @@ returns-in-Some g c bs is =
     let (b, first) = c.in-Some.ensures bs (ap (λ n. take n c.args.blocks.now) (sub-zero c.args.used) ∙ is) in
     (c.in-Some.block, b, refl, first)
 
-pub returns_in_None : goal.returns-in-None
-returns_in_None g c bs is = c.in-None.ensures bs (ap (λ n. take n c.args.blocks.now) (sub-zero c.args.used) ∙ is)
+pub returns-in-None : goal.returns-in-None
+returns-in-None g c bs is = c.in-None.ensures bs (ap (λ n. take n c.args.blocks.now) (sub-zero c.args.used) ∙ is)

@@ -13,8 +13,8 @@ returns-in_default g c t ok is are =
     let all = length-take-le c.args.used c.args.blocks.now c.requires.0 in
     absurd (omega arith)
 
-pub returns_in_None : goal.returns-in-None
-returns_in_None g c t ok is are =
+pub returns-in-None : goal.returns-in-None
+returns-in-None g c t ok is are =
     let rows = ap (λ n. take n c.args.blocks.now) (sub-zero c.args.used) ∙ is in
     let stand = ap (λ n. take n c.args.properties.now) (sub-zero c.args.standing) ∙ are in
     subst (λ o. MisplacedFound g.A.Kind.holds g.R.Kind.holds t (length c.args.frames.now) (Ok o)) c.in-None.is (c.in-Ok.ensures t ok rows stand)

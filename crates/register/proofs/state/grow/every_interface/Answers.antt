@@ -5,5 +5,5 @@ use Rattle.register.proofs.state.grow.every_interface.Goals as goal
 pub returns : goal.returns
 returns c = let e = reads_all in let was = c.in-Some.ensures in cc
 
-pub unreachable_requires : goal.unreachable-requires
-unreachable_requires c = let e = reads_all in let was = c.in-None.ensures in let z : ◌≡◌ {A = ℕ} 0 1 = cc in omega arith
+pub unreachable-requires : goal.unreachable-requires
+unreachable-requires c = let e = reads_all in let was = c.in-None.ensures in let z : ◌≡◌ {A = ℕ} 0 1 = cc in omega arith

@@ -8,8 +8,8 @@ returns-in-Some g c t ok is =
     let found = subst (λ o. AstrayFound g.A.Kind.holds g.R.Kind.holds t p.destination p.to (length c.args.frames.now) (Ok o)) c.in-Some.is (c.in-Ok.ensures t ok is) in
     inr (c.in-Some.address, refl, (found.1, found.2))
 
-pub returns_in_None : goal.returns-in-None
-returns_in_None g c t ok is a astray =
+pub returns-in-None : goal.returns-in-None
+returns-in-None g c t ok is a astray =
     let p = c.args.property in
     let none = subst (λ o. AstrayFound g.A.Kind.holds g.R.Kind.holds t p.destination p.to (length c.args.frames.now) (Ok o)) c.in-None.is (c.in-Ok.ensures t ok is) in
     astray.1 (none.1 a astray.0)

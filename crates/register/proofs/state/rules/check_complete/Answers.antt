@@ -2,8 +2,8 @@ use Rattle.std.proofs.Common.{length, Ok, refl, subst, inl, inr}
 use Rattle.checks.specs.Breaks.{UnmatchedFound}
 use Rattle.register.proofs.state.rules.check_complete.Goals as goal
 
-pub returns_in_None : goal.returns-in-None
-returns_in_None g c t rs ea er is =
+pub returns-in-None : goal.returns-in-None
+returns-in-None g c t rs ea er is =
     let frames = length c.args.frames.now in
     let found = subst (λ o. UnmatchedFound g.A.Kind.holds g.R.Kind.holds t rs frames (Ok o)) c.in-None.is (c.in-Ok.ensures t rs ea er is) in
     found.1

@@ -3,5 +3,5 @@ use Rattle.model.specs.Shape.{Joined}
 use Rattle.tree.specs.Table.{shape_of}
 use Rattle.tree.proofs.table.TreeTable.shared_firewall.Given as goal
 
-abbrev pub invariant_loop_firewall : goal.invariant-loop-firewall
-invariant_loop_firewall l = (f i j : ℕ) → f < l.firewall → Joined (shape_of l.self) f l.one i → Joined (shape_of l.self) f l.other j → ⊥
+abbrev pub invariant-loop-firewall : goal.invariant-loop-firewall
+invariant-loop-firewall l = (f i j : ℕ) → f < l.firewall → Joined (shape_of l.self) f l.one i → Joined (shape_of l.self) f l.other j → ⊥
