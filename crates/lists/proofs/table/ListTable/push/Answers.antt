@@ -7,7 +7,13 @@ invariant_of-self c =
     let t = c.args.self.now in
     let few = c.requires.few in
     let room = c.requires.room in
-    (length-set t.lengths t.count 1 ∙ t.long, (pushed_counted t few, (omega arith, (pushed_short t few, (omega (arith, pushed_sum t few), tt)))))
+    record {
+      long = length-set t.lengths t.count 1 ∙ t.long;
+      counted = pushed_counted t few;
+      few = omega arith;
+      short = pushed_short t few;
+      room = omega (arith, pushed_sum t few);
+    }
 
 pub returns : goal.returns
 returns c = pushed c.args.self.now c.requires.few

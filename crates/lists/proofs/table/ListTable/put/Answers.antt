@@ -9,7 +9,13 @@ invariant_of-self c =
     let y = c.args.length in
     let there = c.requires.there in
     let room = c.requires.room in
-    (length-set t.lengths f y ∙ t.long, (put_counted t f y there, (t.few, (put_short t f y there c.requires.short, (omega (arith, ap sum (put_in t f y there)), tt)))))
+    record {
+      long = length-set t.lengths f y ∙ t.long;
+      counted = put_counted t f y there;
+      few = t.few;
+      short = put_short t f y there c.requires.short;
+      room = omega (arith, ap sum (put_in t f y there));
+    }
 
 pub returns : goal.returns
 returns c = put_in c.args.self.now c.args.firewall c.args.length c.requires.there

@@ -32,7 +32,21 @@ invariant_of-self c =
     let lowest = low_more t.domains m new fits t.lowest low in
     let counted = length-take-le (m + 1) (set t.domains m new) (omega arith) in
     let hung : (g : ℕ) → g < n → node_at t.firewalls g ≤ m + 1 = λ g less. let was = t.hung g less in omega arith in
-    (t.long, (wider, (t.decreases, (counted, (omega arith, (omega arith, (hung, (below, (falling, (single, (apart, (t.low, (lowest, tt)))))))))))))
+    record {
+      long = t.long;
+      wide = wider;
+      measured = t.measured;
+      counted = counted;
+      few = omega arith;
+      fewer = omega arith;
+      hung = hung;
+      below = below;
+      falling = falling;
+      single = single;
+      lower = apart;
+      low = t.low;
+      lowest = lowest;
+    }
 
 pub returns : goal.returns
 returns c =

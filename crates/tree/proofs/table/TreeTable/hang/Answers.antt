@@ -33,7 +33,21 @@ invariant_of-self c =
     let wider : length (set t.domains m lower) ≡ 63 = simp length-set wide in
     let measured = length-take-le (n + 1) (set t.firewalls n upper) (omega arith) in
     let counted = length-take-le (m + 1) (set t.domains m lower) (omega arith) in
-    (more, (wider, (measured, (counted, (omega arith, (omega arith, (hung, (below, (falling, (single, (apart, (low, (lowest, tt)))))))))))))
+    record {
+      long = more;
+      wide = wider;
+      measured = measured;
+      counted = counted;
+      few = omega arith;
+      fewer = omega arith;
+      hung = hung;
+      below = below;
+      falling = falling;
+      single = single;
+      lower = apart;
+      low = low;
+      lowest = lowest;
+    }
 
 pub returns : goal.returns
 returns c =
