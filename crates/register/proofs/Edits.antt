@@ -17,7 +17,7 @@ use Rattle.model.specs.Tree.{Tree, rules_of, with_rules, with_lists, after}
 use Rattle.model.specs.declared.answers.Answer.TheVariants.{Done, Refused}
 use Rattle.model.specs.declared.answers.Lent.{Lent}
 use Rattle.model.specs.declared.answers.Refusal.{Refusal}
-use Rattle.model.specs.declared.answers.Refusal.TheVariants.{TooShort, NoSuch, BadInterface, Full, Outside, Overlap, Unjoined, SourceAstray, DestinationAstray, Unmatched as LeavesUnmatched, Misplaced, Breaks}
+use Rattle.model.specs.declared.answers.Refusal.TheVariants.{TooShort, NoSuch, BadInterface, Full, Outside, Overlap, Unjoined, SourceAstray, DestinationAstray, Unmatched as LeftUnmatched, Misplaced, Breaks}
 use Rattle.model.specs.declared.calls.Call.{Call}
 use Rattle.model.specs.declared.calls.Call.TheVariants.{Place, Alter, Lift}
 use Rattle.model.specs.declared.rules.Packet.{Packet}
@@ -59,7 +59,7 @@ module _ {A R V W : Type 0} (addr : A → V → Type 0) (rests : R → W → Typ
   under n all (suc (suc (suc (suc (suc (suc (suc zero))))))) less x = all Unjoined less x
   under n all (suc (suc (suc (suc (suc (suc (suc (suc zero)))))))) less x = all (SourceAstray x.0) less x.1
   under n all (suc (suc (suc (suc (suc (suc (suc (suc (suc zero))))))))) less x = all (DestinationAstray x.0) less x.1
-  under n all (suc (suc (suc (suc (suc (suc (suc (suc (suc (suc zero)))))))))) less x = all (LeavesUnmatched x.0) less x.1
+  under n all (suc (suc (suc (suc (suc (suc (suc (suc (suc (suc zero)))))))))) less x = all (LeftUnmatched x.0) less x.1
   under n all (suc (suc (suc (suc (suc (suc (suc (suc (suc (suc (suc zero))))))))))) less x = all (Misplaced x.0 x.1) less x.2
   under n all (suc (suc (suc (suc (suc (suc (suc (suc (suc (suc (suc (suc zero)))))))))))) less x = all (Breaks x.0 x.1 x.2) less x.3
   under n all (suc (suc (suc (suc (suc (suc (suc (suc (suc (suc (suc (suc (suc k))))))))))))) less x = x
@@ -96,7 +96,7 @@ module _ {A R V W : Type 0} (addr : A → V → Type 0) (rests : R → W → Typ
       edit_right {B} below (Err q) found = elim found [
         | inl (is, short) ↦ absurd (omega arith)
         | inr (inl (k, is, (inside, loose))) ↦
-            subst (λ e. Right addr rests t c l (Refused e)) (sym is) (refuse addr rests t c l (LeavesUnmatched k) below (lost k (inside, subst (λ ls. Unmatched addr rests ls k) (sym rules_there) loose)))
+            subst (λ e. Right addr rests t c l (Refused e)) (sym is) (refuse addr rests t c l (LeftUnmatched k) below (lost k (inside, subst (λ ls. Unmatched addr rests ls k) (sym rules_there) loose)))
         | inr (inr (all, broken)) ↦ kept_right {B = B} (below_twelve below all) (Err q) (inr broken)
       ]
 

@@ -7,11 +7,11 @@ use tree::TreeTable;
 
 pub mod asks;
 pub mod blocks;
-pub mod checks;
 pub mod grow;
 pub mod make;
 pub mod offers;
 pub mod properties;
+pub mod refusals;
 pub mod rows;
 pub mod rules;
 

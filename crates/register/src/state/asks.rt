@@ -9,7 +9,7 @@ ghost use Rattle.verdicts.specs.Passage.{passage_answer};
 ghost use Rattle.register.specs.Rows.{stored};
 
 use super::Register;
-use super::checks::check_lengths;
+use super::refusals::check_lengths;
 use checks::{BlockRow, PacketRow, RuleRow};
 use kinds::Kind;
 use model::{Header, Lent, Property, Refusal};

@@ -11,7 +11,7 @@ ghost use Rattle.register.specs.Blocks.{ApartFrom, AllPlaced, EditsBlocks};
 ghost use Rattle.register.specs.Order.{Refuses};
 
 use super::Register;
-use super::checks::{check_inside, check_lengths, check_number, check_room};
+use super::refusals::{check_inside, check_lengths, check_number, check_room};
 use crate::slots::{read_slot, write_slot};
 use checks::{BlockRow, PropertyRow, block_row};
 use kinds::Kind;

@@ -10,7 +10,7 @@ ghost use Rattle.register.specs.Rows.{Stored, stored, catch_all};
 ghost use Rattle.search.specs.declared.list.Entry.{Entry};
 
 use super::Register;
-use super::checks::{check_interfaces, check_lengths};
+use super::refusals::{check_interfaces, check_lengths};
 use checks::{RuleRow, rule_row};
 use kinds::{Kind, Set};
 use model::{Decision, Lent, Refusal, Rule};

@@ -16,7 +16,7 @@ ghost use Rattle.search.specs.declared.list.Entry.{Entry};
 ghost use Rattle.tree.specs.Table.{shape_of};
 
 use super::Register;
-use super::checks::{check_lengths, check_number, check_room};
+use super::refusals::{check_lengths, check_number, check_room};
 use checks::{BlockRow, PacketRow, PropertyRow, RuleRow, property_row};
 use kinds::Kind;
 use model::{Lent, MAX_PROPERTIES, Property, Refusal};

@@ -17,7 +17,7 @@ ghost use Rattle.register.specs.Order.{Refuses};
 ghost use Rattle.register.specs.Picture.{Tried};
 
 use super::Register;
-use super::checks::check_lengths;
+use super::refusals::check_lengths;
 use super::rows::{exchange, part, put_in, take_out, undo_put_in};
 use checks::{PacketRow, PropertyRow, RuleRow, find_unmatched, rule_row};
 use kinds::Kind;

@@ -7,12 +7,12 @@ use Rattle.register.proofs.Growing.{branch_right, branch_refused, branch_same}
 use Rattle.register.proofs.Tries.{tried_refused, register_same}
 use Rattle.register.proofs.state.Register.try_branch.Goals as goal
 
-pub returns-in-Ok-domain : goal.returns-in-Ok-domain
-returns-in-Ok-domain g c s = record {
+pub returns-in_Ok-domain : goal.returns-in_Ok-domain
+returns-in_Ok-domain g c s = record {
   turns = λ t reached pic.
-      let made = c.in-Ok-domain.ensures in
+      let made = c.in_Ok-domain.ensures in
       let long = c.in_ok-check_lengths.ensures in (
-        branch_right g.A.Kind.holds g.R.Kind.holds c.args.self.now.tree t pic.shape c.args.lent long c.args.firewall c.args.interface c.in-Ok-domain.domain c.branch-domain.new.self made,
+        branch_right g.A.Kind.holds g.R.Kind.holds c.args.self.now.tree t pic.shape c.args.lent long c.args.firewall c.args.interface c.in_Ok-domain.domain c.branch-domain.new.self made,
         record {
           addresses = pic.addresses;
           rests = pic.rests;
@@ -29,11 +29,11 @@ returns-in-Ok-domain g c s = record {
   short = λ x. absurd (c.in_ok-check_lengths.ensures x);
 }
 
-pub returns-in-Err-domain : goal.returns-in-Err-domain
-returns-in-Err-domain g c s =
-    let failed = c.in-Err-domain.ensures in
+pub returns-in_Err-domain : goal.returns-in_Err-domain
+returns-in_Err-domain g c s =
+    let failed = c.in_Err-domain.ensures in
     let was = c.args.self.now in
     tried_refused g.A.Kind.holds g.R.Kind.holds g.A.Kind.plain g.R.Kind.plain (Branch c.args.firewall c.args.interface) c.args.lent Branched was _ s s c.in_ok-check_lengths.ensures c.refusal_of.result
-    (register_same was _ refl refl (branch_same was.tree c.branch-domain.new.self c.args.firewall c.args.interface c.in-Err-domain.refusal failed) refl refl refl) refl
+    (register_same was _ refl refl (branch_same was.tree c.branch-domain.new.self c.args.firewall c.args.interface c.in_Err-domain.refusal failed) refl refl refl) refl
     (λ t reached pic. rw c.refusal_of.ensures
-    (branch_refused g.A.Kind.holds g.R.Kind.holds was.tree t pic.shape c.args.lent c.in_ok-check_lengths.ensures c.args.firewall c.args.interface c.in-Err-domain.refusal c.branch-domain.new.self failed))
+    (branch_refused g.A.Kind.holds g.R.Kind.holds was.tree t pic.shape c.args.lent c.in_ok-check_lengths.ensures c.args.firewall c.args.interface c.in_Err-domain.refusal c.branch-domain.new.self failed))
