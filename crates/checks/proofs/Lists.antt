@@ -1,24 +1,17 @@
 -- A table's rows of rules say what the rules say.
-use Rattle.std.proofs.Common.{◌≡◌, ℕ, ◌^◌, ◌<◌, ◌≤◌, ◌⊎◌, List, [], ◌∷◌, map, length, Some, None, Option, sym, refl, ap, ◌∙◌, subst, inl, inr, arith, MatchOption}
+use Rattle.std.proofs.Common.{◌≡◌, ℕ, List, map, Some, Option, sym, refl, ap, ◌∙◌, subst, arith, MatchOption}
 use mathlib.Core.HLevel.{×_prop}
 use native.Mathlib.Bridge.{le_prop}
-use native.Mathlib.Decide.{dec_lt}
-use Rattle.std.proofs.lemmas.List.{length-map}
-use Rattle.kinds.specs.Made.{dec_both}
 use Rattle.kinds.specs.Pair.{both, pair_holds}
 use Rattle.kinds.specs.Set.{set_holds, set_of}
-use Rattle.kinds.specs.Words.{Exactly}
 use Rattle.kinds.specs.declared.pair.Pair.{Pair}
 use Rattle.kinds.specs.declared.set.Set.{Set}
 use Rattle.kinds.specs.declared.set.SetRow.{SetRow}
 use Rattle.kinds.specs.Makes.{provided_yes}
-use Rattle.search.specs.First.{First, Nowhere}
-use Rattle.search.specs.List.{row_holds, Says, Meets, outcome}
+use Rattle.search.specs.List.{row_holds, Says}
 use Rattle.search.specs.declared.list.Entry.{Entry}
 use Rattle.search.specs.declared.list.Match as Matched
 use Rattle.search.specs.declared.list.Match.{Match}
-use Rattle.search.specs.declared.list.Outcome as Outcomes
-use Rattle.search.specs.declared.list.Outcome.{Outcome}
 use Rattle.model.specs.Packets.{Matches, Decided, Unmatched}
 use Rattle.model.specs.declared.rules.Decision.{Decision}
 use Rattle.model.specs.declared.rules.Decision.TheVariants.{Accept, Discard}

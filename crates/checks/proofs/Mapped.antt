@@ -1,5 +1,5 @@
 -- Firsts of a list whose elements are rewritten.
-use Rattle.std.proofs.Common.{◌≡◌, ℕ, zero, suc, List, [], ◌∷◌, map, Some, None, sym, refl, ap, ◌∙◌, subst}
+use Rattle.std.proofs.Common.{◌≡◌, ℕ, zero, suc, List, [], ◌∷◌, map, Some, sym, refl, ap, subst}
 use Rattle.std.specs.List.{slice_get}
 use Rattle.kinds.specs.Makes.{none_some}
 use Rattle.search.specs.First.{First, Nowhere}

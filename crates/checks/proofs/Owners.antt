@@ -1,12 +1,9 @@
 -- What the rows of the blocks say of addresses.
-use Rattle.std.proofs.Common.{◌≡◌, ℕ, ◌<◌, ◌⊎◌, List, map, length, Some, None, Ok, Err, Option, sym, refl, ap, ◌∙◌, subst, inl, inr, arith, MatchOption}
+use Rattle.std.proofs.Common.{◌≡◌, ℕ, List, map, Some, None, Ok, Option, sym, refl, ap, ◌∙◌, subst, inl, inr, arith, MatchOption}
 use native.Mathlib.Decide.{ℕ_discrete}
 use Rattle.std.proofs.lemmas.List.{length-map}
-use Rattle.std.specs.List.{slice_get}
-use Rattle.search.specs.Answer.{Searched, Witness}
-use Rattle.search.specs.First.{First, Nowhere}
-use Rattle.search.specs.List.{row_holds, Says, Meets, outcome}
-use Rattle.search.specs.Walk.{Hopeless}
+use Rattle.search.specs.Answer.{Searched}
+use Rattle.search.specs.List.{row_holds, Says, outcome}
 use Rattle.search.specs.declared.frames.Found.{Found}
 use Rattle.search.specs.declared.list.Entry.{Entry}
 use Rattle.search.specs.declared.list.Match as Matched

@@ -4,7 +4,7 @@ use Rattle.std.proofs.Common.{sym, ap, subst, ◌∙◌, inl, inr, add-one, arit
 use Rattle.std.proofs.Math.Decide.{ℕ_discrete}
 use Rattle.std.proofs.Math.Nat.{mul-mod_left, pow-succ'}
 use Rattle.std.proofs.lemmas.Nat.{pow_pos, shr-shr, shl-shr, shr_split, mod_below, pow-add, div_below, mul-le, pow_below}
-use Rattle.kinds.specs.Words.{Disjoint, Inside, Share, Common, Parted}
+use Rattle.kinds.specs.Words.{Disjoint, Inside, Common, Parted}
 
 -- v is in the block of x: they are equal after a shift by s
 abbrev pub In : ℕ → ℕ → ℕ → Type 0

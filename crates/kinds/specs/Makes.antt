@@ -1,5 +1,5 @@
 -- What is made only where a rule holds.
-use Rattle.std.specs.Prelude.{◌≡◌, ℕ, Some, None, Option, MatchOption, refl}
+use Rattle.std.specs.Prelude.{◌≡◌, ℕ, Some, None, MatchOption, refl}
 use Rattle.std.proofs.Common.{ap, arith}
 use Rattle.kinds.specs.Made.{provided}
 

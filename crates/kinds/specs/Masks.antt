@@ -1,16 +1,16 @@
 -- The bits of a mask.
 use Rattle.std.specs.Prelude.{◌≡◌, ℕ, suc, ◌+◌, ◌-◌, ◌*◌, ◌/◌, ◌%◌, ◌^◌, ◌<◌, ◌≤◌, ◌⊎◌, MatchOption, bit_xor, refl}
-use Rattle.std.proofs.Common.{sym, ap, ap₂, subst, ◌∙◌, inl, inr, arith, pow_mono}
+use Rattle.std.proofs.Common.{sym, ap, ap₂, ◌∙◌, inl, inr, arith, pow_mono}
 use Rattle.std.proofs.Math.Nat.{div-eq_of_lt, div-eq_of_lt-le, zero-div, pow-succ'}
 use Rattle.std.proofs.Math.Decide.{dec_lt}
 use Rattle.std.specs.Int.Bits.{bit_and}
-use Rattle.std.proofs.lemmas.Nat.{and_shr, and_mod, and_comm, and_le_l, xor_shr, xor_mod, leading_top, pow_pos, pow-add, pow_below, shr_high, shl-shr, mul-le}
+use Rattle.std.proofs.lemmas.Nat.{and_shr, and_mod, and_comm, and_le_l, xor_shr, xor_mod, leading_top, pow_pos, pow-add, pow_below, shr_high, shl-shr}
 use Rattle.std.proofs.lemmas.Bool.{cases_lt, cases_order}
 use Rattle.kinds.specs.Made.{dec_both}
 use Rattle.kinds.specs.Set.{set_of}
 use Rattle.kinds.specs.declared.set.Set.{Set}
 use Rattle.kinds.specs.Makes.{provided_cases}
-use Rattle.kinds.specs.Words.{Disjoint, Inside, Share, Common, Parted, Exactly}
+use Rattle.kinds.specs.Words.{Disjoint, Inside, Common, Parted, Exactly}
 
 -- bit v of the mask m is set
 abbrev pub Bit : ℕ → ℕ → Type 0

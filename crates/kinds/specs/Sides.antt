@@ -1,5 +1,5 @@
 -- Two regions side by side, from what is known of each side.
-use Rattle.std.specs.Prelude.{◌≡◌, ℕ, ◌⊎◌, Some, None, Option}
+use Rattle.std.specs.Prelude.{◌≡◌, ℕ, Some, None, Option}
 use Rattle.std.proofs.Common.{ap, inl, inr, arith}
 use Rattle.kinds.specs.Words.{Disjoint, Inside, Share, Common, Parted, Inhabited}
 use Rattle.kinds.specs.Pair.{both}

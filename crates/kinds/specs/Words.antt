@@ -1,5 +1,5 @@
 -- Words about the values that regions hold. A region is given here by what it holds.
-use Rattle.std.specs.Prelude.{◌≡◌, ◌⊎◌, List, Option, MatchOption}
+use Rattle.std.specs.Prelude.{◌⊎◌, List, Option, MatchOption}
 use mathlib.Core.List.{Memᴰ}
 
 -- p and q share no value

@@ -1,12 +1,12 @@
 -- Refusals of one call with one number agree in what is not free.
-use Rattle.std.proofs.Common.{◌≡◌, ℕ, ◌⊎◌, List, [], ◌∷◌, Some, None, Option, sym, refl, ap, ◌∙◌, subst, inl, inr, arith, MatchOption}
+use Rattle.std.proofs.Common.{◌≡◌, ℕ, [], ◌∷◌, Some, None, Option, sym, refl, ap, ◌∙◌, subst, arith, MatchOption}
 use Rattle.kinds.specs.Words.{Share}
 use Rattle.search.specs.First.{First}
 use Rattle.search.proofs.Walks.{first_one}
 use Rattle.model.specs.Properties.{BrokenIn, BreaksFirst}
 use Rattle.model.specs.Record.{plain}
-use Rattle.model.specs.Refusals.{number, given, Overlaps, Misplaces, WouldMisplace, BreaksOne, WouldBreak, SomeAstray, Broken, Applies}
-use Rattle.model.specs.Shape.{Sound, Route}
+use Rattle.model.specs.Refusals.{number, given, Misplaces, WouldMisplace, BreaksOne, WouldBreak, Applies}
+use Rattle.model.specs.Shape.{Sound}
 use Rattle.model.specs.Theorems.{settled_values, OneRefusal, OneRoute}
 use Rattle.model.specs.Tree.{Tree, Block, after}
 use Rattle.model.specs.declared.answers.Refusal.{Refusal}
@@ -16,7 +16,7 @@ use Rattle.model.specs.declared.calls.Call.TheVariants.{Attach, Branch, Give, Ta
 use Rattle.model.specs.declared.path.Hop.{Hop}
 use Rattle.model.specs.declared.rules.Packet.{Packet}
 use Rattle.model.specs.declared.rules.Property.{Property}
-use Rattle.model.proofs.Grown.{Grown, grown_plain}
+use Rattle.model.proofs.Grown.{grown_plain}
 use Rattle.model.proofs.Routes.{route_one, route_exists, route_back}
 
 module _ {V W : Type 0} where

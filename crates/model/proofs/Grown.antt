@@ -1,16 +1,15 @@
 -- What every tree is that a lawful record gives.
-use Rattle.std.proofs.Common.{◌≡◌, ℕ, zero, suc, ◌+◌, ◌<◌, ◌≤◌, ◌⊎◌, List, [], ◌∷◌, ◌++◌, length, set, Some, None, Option, sym, refl, ap, ◌∙◌, subst, inl, inr, arith, length-set, MatchOption}
-use native.Mathlib.Decide.{dec_le, dec_lt}
+use Rattle.std.proofs.Common.{◌≡◌, ℕ, suc, ◌+◌, ◌<◌, ◌≤◌, List, [], ◌∷◌, length, Some, None, Option, sym, refl, ap, ◌∙◌, subst, inl, inr, arith, length-set, MatchOption}
+use native.Mathlib.Decide.{dec_le}
 use Rattle.std.proofs.lemmas.List.{length_push}
 use Rattle.std.specs.List.{slice_get}
 use Rattle.kinds.specs.Words.{Share}
 use Rattle.kinds.specs.Makes.{none_some}
-use Rattle.search.specs.First.{First, Nowhere}
+use Rattle.search.specs.First.{Nowhere}
 use Rattle.model.specs.Limits.{max_interfaces}
-use Rattle.model.specs.Properties.{Guarded}
-use Rattle.model.specs.Record.{refused, Said, Right, unless, then_tree, tree_from, plain, LawfulFrom, Lawful}
-use Rattle.model.specs.Refusals.{Applies, number}
-use Rattle.model.specs.Shape.{Shape, Domain, Firewall, Sound, attached, branched}
+use Rattle.model.specs.Record.{refused, Right, unless, then_tree, tree_from, plain, LawfulFrom, Lawful}
+use Rattle.model.specs.Refusals.{Applies}
+use Rattle.model.specs.Shape.{Domain, Sound}
 use Rattle.model.specs.Tree.{Tree, Block, start, after}
 use Rattle.model.specs.declared.answers.Lent.{Lent}
 use Rattle.model.specs.declared.answers.Recorded.{Recorded}

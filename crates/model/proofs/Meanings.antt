@@ -1,22 +1,19 @@
 -- Proofs of the theorems about lawful records.
-use Rattle.std.proofs.Common.{◌≡◌, ℕ, zero, suc, ◌+◌, ◌/◌, ◌%◌, ◌^◌, ◌<◌, ◌≤◌, ◌⊎◌, List, [], ◌∷◌, ◌++◌, Some, None, Option, unwrap_or, sym, refl, ap, ◌∙◌, subst, inl, inr, arith}
+use Rattle.std.proofs.Common.{◌≡◌, ℕ, ◌/◌, ◌%◌, ◌^◌, List, [], ◌∷◌, ◌++◌, Some, Option, unwrap_or, sym, refl, ap, ◌∙◌, subst, inl, inr, arith}
 use native.Mathlib.Decide.{ℕ_discrete}
 use Rattle.std.specs.List.{slice_get}
 use Rattle.kinds.specs.Made.{dec_both}
-use Rattle.kinds.specs.Set.{set_holds}
 use Rattle.kinds.specs.Words.{Share}
-use Rattle.search.specs.First.{First, Nowhere}
 use Rattle.search.proofs.Positions.{nth_set_other}
 use Rattle.search.proofs.Walks.{first_one}
-use Rattle.model.specs.Packets.{Matches, Decided, InWhole, Complete}
+use Rattle.model.specs.Packets.{Matches}
 use Rattle.model.specs.Properties.{Of, Guarded, Against, BreaksIn}
-use Rattle.model.specs.Record.{plain, then_tree, tree_from, Right, LawfulFrom, Lawful}
+use Rattle.model.specs.Record.{plain, then_tree, tree_from, Right, LawfulFrom}
 use Rattle.model.specs.Shape.{Domain}
 use Rattle.model.specs.Theorems.{OneDomain, OneDecision, CutShort, OneMore, BreaksThereOnly}
 use Rattle.model.specs.Tree.{Tree, Block, start, rules_of, with_rules}
 use Rattle.model.specs.declared.answers.Recorded.{Recorded}
 use Rattle.model.specs.declared.path.Hop.{Hop}
-use Rattle.model.specs.declared.rules.Decision.{Decision}
 use Rattle.model.specs.declared.rules.Packet.{Packet}
 use Rattle.model.specs.declared.rules.Property.{Property}
 use Rattle.model.specs.declared.rules.Rule.{Rule}

@@ -1,5 +1,5 @@
 -- The samples of the answers hold.
-use Rattle.std.proofs.Common.{◌≡◌, ℕ, ◌<◌, ◌≤◌, ◌⊎◌, List, [], ◌∷◌, Some, None, sym, refl, ap, subst, inl, inr, arith}
+use Rattle.std.proofs.Common.{◌≡◌, ℕ, ◌<◌, ◌≤◌, List, [], ◌∷◌, Some, sym, refl, ap, subst, inl, inr, arith}
 use Rattle.std.specs.List.{slice_get}
 use Rattle.kinds.specs.Range.{range_holds}
 use Rattle.kinds.specs.declared.range.Range.{Range}
@@ -23,7 +23,7 @@ use Rattle.model.specs.declared.rules.Property.{Property}
 use Rattle.model.specs.declared.rules.Rule.{Rule}
 use Rattle.model.proofs.Growth.{sound_attached}
 use Rattle.model.proofs.Routes.{route_one}
-use Rattle.model.proofs.Sampled.{only_one, only_two, one_joined, block}
+use Rattle.model.proofs.Sampled.{only_one, only_two, one_joined}
 use Rattle.model.proofs.SampledEdits.{owned_of, of_owner, of_zero, hop_in, route_in, sound_one, only_route, only_hop, first_break, decided_first, inward_broken, by_zero}
 
 attach_none : (r : Refusal ℕ ℕ) → Refuses alone (Attach 0 0 1 Discard) r → ⊥

@@ -1,5 +1,5 @@
 -- The samples of the refusals 8 to 12 hold.
-use Rattle.std.proofs.Common.{◌≡◌, ℕ, zero, suc, ◌/◌, ◌%◌, ◌^◌, ◌<◌, ◌≤◌, Bool, true, false, cond, T, eqb, ◌⊎◌, List, [], ◌∷◌, Some, None, sym, refl, ap, subst, inl, inr, arith, eqb→eq}
+use Rattle.std.proofs.Common.{◌≡◌, ℕ, zero, suc, ◌/◌, ◌%◌, ◌^◌, ◌<◌, ◌≤◌, Bool, true, false, cond, T, eqb, ◌⊎◌, List, [], ◌∷◌, Some, sym, refl, ap, subst, inl, inr, arith, eqb→eq}
 use native.Mathlib.Decide.{ℕ_discrete}
 use Rattle.std.proofs.lemmas.Bool.{cases_lt}
 use Rattle.std.specs.List.{slice_get}
@@ -7,7 +7,6 @@ use Rattle.kinds.specs.Range.{range_holds}
 use Rattle.kinds.specs.Set.{set_holds}
 use Rattle.kinds.specs.declared.range.Range.{Range}
 use Rattle.kinds.specs.Makes.{none_some}
-use Rattle.search.specs.First.{First, Nowhere}
 use Rattle.search.proofs.Positions.{before_none, before_more, before_all}
 use Rattle.model.specs.Examples.{range, mask}
 use Rattle.model.specs.Packets.{Matches, Decided, Unmatched, Accepted, Discarded}

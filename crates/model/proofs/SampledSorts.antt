@@ -1,5 +1,5 @@
 -- Which sorts of calls a refusal can have.
-use Rattle.std.proofs.Common.{◌≡◌, ℕ, ◌⊎◌, List, [], ◌∷◌, refl, inl, inr}
+use Rattle.std.proofs.Common.{ℕ, [], ◌∷◌, refl, inl, inr}
 use Rattle.model.specs.Samples.{Only, Sorts}
 use Rattle.model.specs.declared.answers.Refusal.TheVariants.{BadInterface, Full, Outside, Overlap, Unjoined, SourceAstray, DestinationAstray, Unmatched, Misplaced, Breaks}
 use Rattle.model.specs.declared.calls.Call.TheVariants.{Attach, Branch, Give, Take, Place, Alter, Lift, Stand, Withdraw, Ask, Send}

@@ -1,6 +1,5 @@
 -- The worked examples hold.
-use Rattle.std.proofs.Common.{◌≡◌, ℕ, zero, suc, ◌<◌, ◌≤◌, [], ◌∷◌, Some, sym, refl, ap, inl, inr, arith, MatchOption}
-use Rattle.std.specs.List.{slice_get}
+use Rattle.std.proofs.Common.{ℕ, ◌≤◌, refl, inl, inr, arith}
 use Rattle.kinds.specs.Words.{Inhabited}
 use Rattle.kinds.specs.Range.{range_holds}
 use Rattle.kinds.specs.Prefix.{prefix_holds}
@@ -10,10 +9,7 @@ use Rattle.kinds.specs.declared.prefix.Prefix.{Prefix}
 use Rattle.kinds.specs.declared.set.Set.{Set}
 use Rattle.kinds.specs.FirstBits.{common_in}
 use Rattle.kinds.specs.Masks.{and_common, some_bit}
-use Rattle.search.specs.First.{First}
-use Rattle.search.specs.List.{Says}
 use Rattle.model.specs.Examples.{Examples, range, prefix, ip, mask, range_rows, two_rules, one_block}
-use Rattle.search.specs.declared.list.Entry.{Entry}
 use Rattle.search.proofs.Positions.{before_none, before_more, before_all}
 use Rattle.kinds.specs.Makes.{provided_cases, provided_fits}
 use native.Mathlib.Decide.{dec_le}

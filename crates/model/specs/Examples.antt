@@ -1,5 +1,5 @@
 -- Worked examples of the meanings, in one table.
-use Rattle.std.specs.Prelude.{◌≡◌, ℕ, ◌+◌, ◌-◌, ◌*◌, ◌%◌, ◌^◌, ◌<◌, ◌≤◌, T, List, [], ◌∷◌, Some, None, Option, nat_le, nat_lt, refl}
+use Rattle.std.specs.Prelude.{◌≡◌, ℕ, ◌+◌, ◌-◌, ◌*◌, ◌%◌, ◌^◌, T, List, [], ◌∷◌, Some, None, Option, nat_le, nat_lt, refl}
 use Rattle.std.proofs.Common.{leb→le, ltb→lt}
 use Rattle.kinds.specs.Words.{Exactly, MeetOf, SplitOf}
 use Rattle.kinds.specs.Range.{range_holds, range_of}

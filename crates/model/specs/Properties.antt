@@ -1,5 +1,5 @@
 -- What is declared standing: where a property may be placed, and what breaks it.
-use Rattle.std.specs.Prelude.{◌≡◌, ℕ, ◌<◌, ◌⊎◌, List, Some}
+use Rattle.std.specs.Prelude.{◌≡◌, ℕ, ◌⊎◌, List, Some}
 use Rattle.std.specs.List.{slice_get}
 use Rattle.kinds.specs.Words.{Inside}
 use Rattle.search.specs.First.{First, Nowhere}

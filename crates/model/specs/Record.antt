@@ -16,7 +16,6 @@ use Rattle.model.specs.declared.calls.Call.TheVariants.{Attach, Branch, Give, Ta
 use Rattle.model.specs.declared.path.Hop.{Hop}
 use Rattle.model.specs.declared.rules.Decision.TheVariants.{Discard}
 use Rattle.model.specs.declared.rules.Header.{Header}
-use Rattle.model.specs.declared.rules.Packet.{Packet}
 use Rattle.model.specs.declared.rules.Property.{Property}
 
 -- the refusal that an answer is, if it is one

@@ -1,11 +1,10 @@
 -- The refusal table: when a call is refused, under which number, and what is shown with it.
-use Rattle.std.specs.Prelude.{◌≡◌, ℕ, suc, ◌+◌, ◌<◌, ◌≤◌, ◌⊎◌, List, length, Some, None, Option, MatchOption}
-use Rattle.std.specs.List.{slice_get}
+use Rattle.std.specs.Prelude.{◌≡◌, ℕ, suc, ◌+◌, ◌<◌, ◌≤◌, ◌⊎◌, length, Some, None, Option, MatchOption}
 use Rattle.kinds.specs.Words.{Inside, Share}
 use Rattle.search.specs.First.{First}
 use Rattle.model.specs.Limits.{max_rules, max_list, max_blocks, max_properties, max_domains, max_interfaces, min_packet_frames, min_address_frames}
 use Rattle.model.specs.Packets.{InWhole, Unmatched}
-use Rattle.model.specs.Properties.{Neighbours, IsSourceAstray, IsDestinationAstray, BrokenIn, BreaksFirst}
+use Rattle.model.specs.Properties.{Neighbours, IsSourceAstray, IsDestinationAstray, BreaksFirst}
 use Rattle.model.specs.Shape.{Shape, Domain, Firewall, Joined}
 use Rattle.model.specs.Tree.{Tree, Block, rules_of, count_rules, after}
 use Rattle.model.specs.declared.answers.Lent.{Lent}

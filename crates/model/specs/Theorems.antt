@@ -4,7 +4,7 @@ use Rattle.model.specs.Packets.{Decided, InWhole, Complete}
 use Rattle.model.specs.Properties.{Of, Kept, BreaksAt, Guarded}
 use Rattle.model.specs.Record.{plain, then_tree, Right, Lawful}
 use Rattle.model.specs.Refusals.{number, Applies}
-use Rattle.model.specs.Shape.{Shape, Domain, Route, back}
+use Rattle.model.specs.Shape.{Domain, Route, back}
 use Rattle.model.specs.Tree.{Tree, with_rules}
 use Rattle.model.specs.declared.answers.Lent.{Lent}
 use Rattle.model.specs.declared.answers.Recorded.{Recorded}

@@ -1,5 +1,5 @@
 -- Attach: a firewall with one rule for everything, and a domain below it.
-use Rattle.std.proofs.Common.{◌≡◌, ℕ, suc, ◌+◌, ◌-◌, ◌<◌, ◌≤◌, Bool, true, false, cond, ◌⊎◌, List, [], ◌∷◌, ◌++◌, length, take, set, Some, Ok, Err, Decides, sum, sym, refl, ap, ◌∙◌, subst, ap₂, inl, inr, arith}
+use Rattle.std.proofs.Common.{◌≡◌, ℕ, suc, ◌+◌, ◌-◌, ◌<◌, ◌≤◌, Bool, cond, ◌⊎◌, List, [], ◌∷◌, ◌++◌, length, take, set, Some, Ok, Err, Decides, sym, ap, ◌∙◌, subst, ap₂, inl, inr, arith}
 use mathlib.Core.HLevel.{×_prop}
 use native.Mathlib.Bridge.{le_prop}
 use Rattle.std.proofs.lemmas.List.{take_more_set}
@@ -12,7 +12,7 @@ use Rattle.search.specs.declared.list.Entry.{Entry}
 use Rattle.model.specs.Limits.{max_domains, max_interfaces, max_rules}
 use Rattle.model.specs.Record.{Right}
 use Rattle.model.specs.Refusals.{IsTooShort}
-use Rattle.model.specs.Shape.{Shape, Domain, attached}
+use Rattle.model.specs.Shape.{Shape, Domain}
 use Rattle.model.specs.Tree.{Tree, all_interfaces, whole_rule}
 use Rattle.model.specs.declared.answers.Answer.TheVariants.{Attached, Refused}
 use Rattle.model.specs.declared.answers.Lent.{Lent}
@@ -32,7 +32,7 @@ use Rattle.lists.specs.Lengths.{lengths_of}
 use Rattle.lists.proofs.Laid.{laid_count, laid_total, laid_added}
 use Rattle.checks.specs.Rows.{rule_entry}
 use Rattle.register.specs.Picture.{Pictures}
-use Rattle.register.specs.Rows.{Stored, rule_count, catch_all, with_rules}
+use Rattle.register.specs.Rows.{Stored, rule_count, catch_all}
 use Rattle.register.specs.declared.state.Register.{Register}
 use Rattle.register.proofs.Order.{Below, below_one, more, none, refuse}
 

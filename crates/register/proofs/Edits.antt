@@ -3,7 +3,7 @@ use Rattle.std.proofs.Common.{◌≡◌, ℕ, zero, suc, ◌+◌, ◌-◌, ◌<�
 use native.Mathlib.Decide.{dec_lt}
 use lib.ListN.{length-map}
 use Rattle.std.specs.List.{slice_get, insert, remove}
-use Rattle.std.proofs.lemmas.List.Edits.{length-insert, length-remove}
+use Rattle.std.proofs.lemmas.List.Edits.{length-insert}
 use Rattle.kinds.specs.declared.pair.Pair.{Pair}
 use Rattle.kinds.specs.declared.set.SetRow.{SetRow}
 use Rattle.search.specs.declared.list.Entry.{Entry}
@@ -11,7 +11,7 @@ use Rattle.search.proofs.Positions.{nth_set_same}
 use Rattle.model.specs.Packets.{InWhole, Unmatched, Complete}
 use Rattle.model.specs.Record.{Right, Said}
 use Rattle.model.specs.Limits.{max_list, max_rules, max_properties, min_packet_frames}
-use Rattle.model.specs.Refusals.{BreaksOne, WouldBreak, LeavesUnmatched, RuleInside, IsTooShort, NamesNoSuch, NoFirewall, Full as TooMany, given, offered}
+use Rattle.model.specs.Refusals.{BreaksOne, WouldBreak, LeavesUnmatched, RuleInside, IsTooShort, NoFirewall, given, offered}
 use Rattle.model.specs.Shape.{Shape, Firewall}
 use Rattle.model.specs.Tree.{Tree, rules_of, with_rules, with_lists, after}
 use Rattle.model.specs.declared.answers.Answer.TheVariants.{Done, Refused}
@@ -26,16 +26,15 @@ use Rattle.tree.specs.Table.{shape_of}
 use Rattle.tables.specs.Rows.{row_in, row_out}
 use Rattle.tables.proofs.Rows.{take_row_in, take_row_out, undo_in, undo_out, undo_set}
 use Rattle.lists.specs.Layout.{Laid}
-use Rattle.lists.specs.Lengths.{lengths_of, length_at, start_of}
-use Rattle.lists.specs.declared.table.ListTable.{ListTable}
+use Rattle.lists.specs.Lengths.{lengths_of, start_of}
 use Rattle.lists.proofs.Bounds.{length_max, sum_max}
 use Rattle.lists.proofs.Laid.{laid_length, laid_total, laid_count, laid_placed, placed_list, laid_altered, altered_list, laid_lifted, lifted_list, start_within}
 use Rattle.checks.specs.Rows.{rule_entry}
 use Rattle.checks.specs.declared.rows.PropertyRow.{PropertyRow}
-use Rattle.register.specs.Edits.{Opened, Stands, Room, There, list_length, CompleteJudged, KeptJudged, EditJudged, NoneBroken, stored}
+use Rattle.register.specs.Edits.{Opened, Stands, Room, There, list_length, KeptJudged, EditJudged, NoneBroken, stored}
 use Rattle.register.specs.Order.{Passed, Refuses}
 use Rattle.register.specs.Picture.{Pictures, Reached, Tried, answered}
-use Rattle.register.specs.Rows.{Stored, rule_count, row_at, stored_after}
+use Rattle.register.specs.Rows.{Stored, rule_count, row_at}
 use Rattle.register.specs.declared.state.Register.{Register}
 use Rattle.register.proofs.Order.{Cause, Below, below_one, more, none, refuse, passed}
 use Rattle.register.proofs.Tries.{reached_grown, reached_guarded, tried_refused}

@@ -1,9 +1,9 @@
 -- The tree grows as the calls say.
-use Rattle.std.proofs.Common.{◌≡◌, ℕ, suc, ◌+◌, ◌<◌, ◌≤◌, ◌⊎◌, List, [], ◌∷◌, ◌++◌, length, Ok, Err, sym, refl, ap, ◌∙◌, subst, inl, inr, arith}
+use Rattle.std.proofs.Common.{◌≡◌, ℕ, suc, ◌≤◌, ◌⊎◌, length, Ok, Err, sym, ap, ◌∙◌, subst, inl, inr, arith}
 use Rattle.model.specs.Record.{Right}
 use Rattle.model.specs.Refusals.{IsTooShort}
-use Rattle.model.specs.Shape.{Shape, Firewall, Joined, branched}
-use Rattle.model.specs.Tree.{Tree, after}
+use Rattle.model.specs.Shape.{Shape, Firewall, Joined}
+use Rattle.model.specs.Tree.{Tree}
 use Rattle.model.specs.declared.answers.Answer.TheVariants.{Branched, Refused}
 use Rattle.model.specs.declared.answers.Lent.{Lent}
 use Rattle.model.specs.declared.answers.Refusal.TheVariants.{NoSuch, BadInterface, Full}

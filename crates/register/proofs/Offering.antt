@@ -1,14 +1,14 @@
 -- What the checks of an offered property say together.
-use Rattle.std.proofs.Common.{◌≡◌, ℕ, ◌≤◌, ◌⊎◌, List, length, IsErrAnd, Ok, Err, Result, sym, refl, ◌∙◌, subst, subst₂, inl, inr}
+use Rattle.std.proofs.Common.{◌≡◌, ℕ, ◌≤◌, ◌⊎◌, length, IsErrAnd, Ok, Err, Result, sym, subst, subst₂, inl, inr}
 use Rattle.kinds.specs.Words.{Inside}
-use Rattle.model.specs.Properties.{IsSourceAstray, IsDestinationAstray}
+use Rattle.model.specs.Properties.{IsSourceAstray}
 use Rattle.model.specs.Refusals.{PropertyInside, Misjoined}
 use Rattle.model.specs.Shape.{Shape}
 use Rattle.model.specs.Tree.{Tree}
 use Rattle.model.specs.declared.answers.Refusal.{Refusal}
-use Rattle.model.specs.declared.answers.Refusal.TheVariants.{Outside, Unjoined, SourceAstray, DestinationAstray}
+use Rattle.model.specs.declared.answers.Refusal.TheVariants.{Outside, Unjoined}
 use Rattle.model.specs.declared.rules.Property.{Property}
-use Rattle.register.specs.Offers.{SourceChecked, DestinationChecked, Fits, Misfits, OfferChecked}
+use Rattle.register.specs.Offers.{SourceChecked, DestinationChecked, Misfits, OfferChecked}
 use Rattle.register.specs.Offers.Misfits.{outside, unjoined, source, destination}
 
 module _ {A R V W : Type 0} (addr : A → V → Type 0) (rests : R → W → Type 0) (t : Tree A R) (p : Property A R) (frames : ℕ) where

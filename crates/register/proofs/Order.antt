@@ -1,8 +1,8 @@
 -- Down the refusal table, one number after the other.
-use Rattle.std.proofs.Common.{◌≡◌, ℕ, zero, suc, ◌+◌, ◌<◌, ◌⊎◌, refl, subst, inl, inr, arith, MatchOption}
+use Rattle.std.proofs.Common.{ℕ, zero, suc, ◌+◌, ◌<◌, subst, arith, MatchOption}
 use native.Mathlib.Decide.{ℕ_discrete}
 use Rattle.model.specs.Properties.{IsSourceAstray, IsDestinationAstray}
-use Rattle.model.specs.Record.{Right, Said, refused}
+use Rattle.model.specs.Record.{Right}
 use Rattle.model.specs.Refusals.{number, Applies, IsTooShort, NamesNoSuch, HasBadInterface, Full, AllInside, Overlaps, Misjoined, LeavesUnmatched, WouldMisplace, WouldBreak, offered}
 use Rattle.model.specs.Tree.{Tree}
 use Rattle.model.specs.declared.answers.Answer as answer

@@ -1,7 +1,7 @@
 -- What is proved of a call in every tree is its promise for every record.
 use Rattle.std.proofs.Common.{◌≡◌, ℕ, List, [], ◌∷◌, ◌++◌, IfSome, Some, None, Ok, Err, Option, Result, sym, refl, subst, arith, MatchOption}
 use Rattle.kinds.specs.Words.{Inhabited}
-use Rattle.model.specs.Record.{refused, plain, then_tree}
+use Rattle.model.specs.Record.{refused, plain}
 use Rattle.model.specs.declared.answers.Answer.{Answer}
 use Rattle.model.specs.declared.answers.Answer.TheVariants.{Refused}
 use Rattle.model.specs.declared.answers.Lent.{Lent}

@@ -1,5 +1,5 @@
 -- Send: a packet on its way.
-use Rattle.std.proofs.Common.{◌≡◌, List, sym, refl, subst₂}
+use Rattle.std.proofs.Common.{sym, subst₂}
 use Rattle.model.specs.Record.{Right, Sent, then_tree}
 use Rattle.model.specs.Refusals.{Applies, IsTooShort}
 use Rattle.model.specs.Tree.{Tree}

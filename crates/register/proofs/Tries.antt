@@ -1,6 +1,6 @@
 -- What is left to show of a call that is refused, and of one that is not.
 use mathlib.Core.HLevel.{is_prop→PathP}
-use Rattle.std.proofs.Common.{◌≡◌, ◌≤◌, List, IsErrAnd, Ok, Err, Result, sym, refl, ◌∙◌, subst, subst₂}
+use Rattle.std.proofs.Common.{◌≡◌, ◌≤◌, IsErrAnd, Ok, Err, Result, sym, refl, ◌∙◌, subst, subst₂}
 use native.Mathlib.Bridge.{le_prop}
 use Rattle.model.specs.Limits.{max_blocks, max_properties}
 use Rattle.model.specs.Properties.{Guarded}
@@ -15,10 +15,10 @@ use Rattle.model.specs.declared.answers.Refusal.TheVariants.{TooShort}
 use Rattle.model.specs.declared.calls.Call.{Call}
 use Rattle.model.proofs.Grown.{Grown, grown_plain}
 use Rattle.model.proofs.Meanings.{guarded_last}
-use Rattle.register.specs.Picture.{Pictures, Reached, Turns, Tried}
+use Rattle.register.specs.Picture.{Pictures, Reached, Tried}
 use Rattle.register.specs.Rows.{Stored}
 use Rattle.register.specs.declared.state.Register.{Register}
-use Rattle.register.proofs.Order.{Below, below_one, refuse}
+use Rattle.register.proofs.Order.{below_one, refuse}
 
 -- registers with equal parts are equal
 pub register_same : {A R : Type 0} (g h : Register A R) → h.addresses ≡ g.addresses → h.rests ≡ g.rests → h.tree ≡ g.tree → h.lists ≡ g.lists

@@ -1,5 +1,5 @@
 -- An edit of one firewall's list: what is checked before it is made, and of the list as it would stand.
-use Rattle.std.specs.Prelude.{◌≡◌, ℕ, ◌<◌, ◌≤◌, ◌⊎◌, List, map, length, take, IfOk, Some, Ok, Err, sum, Result}
+use Rattle.std.specs.Prelude.{◌≡◌, ℕ, ◌<◌, ◌≤◌, ◌⊎◌, List, map, length, take, IfOk, Some, Ok, Err, Result}
 use Rattle.std.specs.List.{slice_get}
 use Rattle.kinds.specs.declared.pair.Pair.{Pair}
 use Rattle.kinds.specs.declared.set.SetRow.{SetRow}

@@ -1,5 +1,5 @@
 -- What meet and split tell of two regions.
-use Rattle.std.proofs.Common.{◌≡◌, ℕ, Bool, true, false, not, ◌⊎◌, is_some, Some, None, Decides, Option, sym, refl, inl, inr, arith}
+use Rattle.std.proofs.Common.{◌≡◌, Bool, true, false, not, is_some, Some, None, Decides, Option, sym, refl, inl, inr}
 use Rattle.std.proofs.lemmas.Bool.{false≢true}
 use Rattle.std.proofs.lemmas.Bool.Decides.{Decides-at}
 use Rattle.kinds.specs.Words.{Share, Inside, Disjoint, Common, Parted, Inhabited, Exactly, MeetOf, SplitOf}

@@ -1,7 +1,6 @@
 -- How many members of a list a region holds.
-use Rattle.std.proofs.Common.{◌≡◌, ℕ, zero, suc, ◌+◌, ◌-◌, ◌*◌, ◌<◌, ◌≤◌, ◌⊎◌, List, [], ◌∷◌, sym, refl, ap, subst, inl, inr, arith}
+use Rattle.std.proofs.Common.{◌≡◌, ℕ, suc, ◌+◌, ◌<◌, ◌≤◌, ◌⊎◌, List, [], ◌∷◌, refl, subst, inl, inr, arith}
 use mathlib.Core.List.{Memᴰ}
-use Rattle.kinds.specs.Words.{Inside, Disjoint}
 use Rattle.search.specs.Walk.{Halves}
 
 abbrev tick : {P : Type 0} → Dec P → ℕ → ℕ

@@ -1,18 +1,17 @@
 -- The frames of a search: what they hold, and what they weigh.
-use Rattle.std.proofs.Common.{◌≡◌, ℕ, zero, suc, ◌+◌, ◌-◌, ◌*◌, ◌<◌, ◌≤◌, ◌⊎◌, List, [], ◌∷◌, length, set, Some, None, Option, sym, refl, ap, ◌∙◌, subst, subst₂, inl, inr, arith, length-set, MatchOption}
+use Rattle.std.proofs.Common.{◌≡◌, ℕ, suc, ◌+◌, ◌<◌, ◌≤◌, List, [], length, set, Some, None, Option, sym, ap, ◌∙◌, subst, subst₂, inl, inr, arith, length-set, MatchOption}
 use mathlib.Core.List.{Memᴰ}
 use native.Mathlib.Decide.{ℕ_discrete}
 use Rattle.std.specs.List.{slice_get}
-use Rattle.kinds.specs.Words.{Inside, Inhabited, Finite}
+use Rattle.kinds.specs.Words.{Inside, Finite}
 use Rattle.search.specs.List.{row_holds, Says, Meets}
-use Rattle.search.specs.Walk.{Clear, Hopeless, Halves, CutAt}
+use Rattle.search.specs.Walk.{Clear, Hopeless, CutAt}
 use Rattle.search.specs.declared.list.Entry.{Entry}
 use Rattle.search.specs.declared.list.Match.{Match}
 use Rattle.search.specs.declared.list.Wish.{Wish}
 use Rattle.search.specs.declared.frames.Frame.{Frame}
-use Rattle.search.proofs.Positions.{nth_set_same, nth_set_other, nth_within}
+use Rattle.search.proofs.Positions.{nth_set_same, nth_set_other}
 use Rattle.search.proofs.Walks.{clear_inside}
-use Rattle.search.proofs.Sizes.{size, size_some, size_halves}
 
 -- an Option is one thing
 some_one : {X : Type 0} (o : Option X) (x y : X) → o ≡ Some x → o ≡ Some y → x ≡ y

@@ -1,12 +1,11 @@
 -- What a walk down a list tells of the values of a region.
-use Rattle.std.proofs.Common.{◌≡◌, ℕ, ◌+◌, ◌<◌, ◌≤◌, ◌⊎◌, List, length, Some, sym, refl, ap, ◌∙◌, subst, inl, inr, arith}
-use native.Mathlib.Decide.{ℕ_discrete}
+use Rattle.std.proofs.Common.{◌≡◌, ℕ, ◌≤◌, List, length, Some, sym, refl, ap, ◌∙◌, subst, inl, inr}
 use Rattle.std.specs.List.{slice_get}
 use Rattle.std.proofs.lemmas.Bool.{cases_order}
-use Rattle.kinds.specs.Words.{Share, Inside, Disjoint}
-use Rattle.search.specs.First.{First, Nowhere, Before}
-use Rattle.search.specs.List.{Says, Meets, outcome}
-use Rattle.search.specs.Walk.{Clear, Hopeless, Halves, Settled, Stepped, CutAt}
+use Rattle.kinds.specs.Words.{Share, Inside}
+use Rattle.search.specs.First.{First, Before}
+use Rattle.search.specs.List.{Says, Meets}
+use Rattle.search.specs.Walk.{Clear, Hopeless, Settled, Stepped}
 use Rattle.search.specs.declared.list.Entry.{Entry}
 use Rattle.search.specs.declared.list.Match as Matches
 use Rattle.search.specs.declared.list.Match.{Match}
@@ -14,7 +13,7 @@ use Rattle.search.specs.declared.list.Wish.{Wish}
 use Rattle.search.specs.declared.list.Wish.TheVariants.{Is, IsNot}
 use Rattle.search.specs.declared.walk.Step as Steps
 use Rattle.search.specs.declared.walk.Step.{Step}
-use Rattle.search.proofs.Positions.{before_more, before_all, nth_within}
+use Rattle.search.proofs.Positions.{before_all}
 
 -- two firsts of a list are one
 pub first_one : {X : Type 0} (fits : X → Type 0) (xs : List X) (p q : ℕ) (x y : X) → First fits xs p x → First fits xs q y → (p ≡ q) × (x ≡ y)

@@ -1,11 +1,11 @@
 -- What the frames of a search weigh: it falls with each step.
-use Rattle.std.proofs.Common.{◌≡◌, ℕ, zero, suc, ◌+◌, ◌-◌, ◌*◌, ◌<◌, ◌≤◌, List, [], ◌∷◌, length, set, Some, None, Option, sym, refl, ap, ◌∙◌, subst, ap₂, arith, length-set}
+use Rattle.std.proofs.Common.{◌≡◌, ℕ, zero, suc, ◌+◌, ◌-◌, ◌*◌, ◌<◌, ◌≤◌, List, [], ◌∷◌, length, set, Some, None, Option, sym, refl, ap, subst, ap₂, arith, length-set}
 use mathlib.Core.List.{Memᴰ}
 use Rattle.std.specs.List.{slice_get}
-use Rattle.kinds.specs.Words.{Inside, Inhabited}
+use Rattle.kinds.specs.Words.{Inhabited}
 use Rattle.search.specs.Walk.{Halves}
 use Rattle.search.specs.declared.frames.Frame.{Frame}
-use Rattle.search.proofs.Positions.{nth_set_same, nth_set_other, nth_within}
+use Rattle.search.proofs.Positions.{nth_set_same}
 use Rattle.search.proofs.Sizes.{size, size_some, size_halves}
 
 -- the sum over the first n

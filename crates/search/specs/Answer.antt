@@ -1,5 +1,5 @@
 -- What the search answers.
-use Rattle.std.specs.Prelude.{◌≡◌, ℕ, ◌<◌, ◌≤◌, List, length, Some, None, Ok, Err, Option, Result}
+use Rattle.std.specs.Prelude.{ℕ, ◌<◌, ◌≤◌, List, length, Some, None, Ok, Err, Option, Result}
 use Rattle.search.specs.List.{Says, Meets}
 use Rattle.search.specs.Walk.{Hopeless}
 use Rattle.search.specs.declared.list.Entry.{Entry}

@@ -1,5 +1,5 @@
 -- Lists of regions with outcomes: which entry decides a value, and what is wished of it.
-use Rattle.std.specs.Prelude.{◌≡◌, ℕ, List, Option, MatchOption}
+use Rattle.std.specs.Prelude.{◌≡◌, List, Option, MatchOption}
 use Rattle.search.specs.First.{First, Nowhere}
 use Rattle.search.specs.declared.list.Entry.{Entry}
 use Rattle.search.specs.declared.list.Outcome as Outcomes

@@ -1,8 +1,8 @@
 -- What a row put in, or taken out, leaves of a table, and how it is undone.
-use Rattle.std.proofs.Common.{◌≡◌, ℕ, zero, suc, ◌+◌, ◌-◌, ◌<◌, ◌≤◌, List, [], ◌∷◌, ◌++◌, length, take, drop, set, Some, None, sym, refl, ap, ◌∙◌, subst, ap₂, append_assoc, add-one, arith}
+use Rattle.std.proofs.Common.{◌≡◌, ℕ, zero, suc, ◌+◌, ◌-◌, ◌<◌, ◌≤◌, List, [], ◌∷◌, ◌++◌, length, take, drop, set, Some, sym, refl, ap, ◌∙◌, ap₂, append_assoc, add-one, arith}
 use Rattle.std.specs.List.{slice_get, insert, remove}
 use Rattle.std.proofs.lemmas.List.Edits.{length-insert, length-remove}
-use Rattle.std.proofs.lemmas.List.{length-take, length-drop, length-append, length-take-le, take_at, drop_at, set_at, take-append-drop}
+use Rattle.std.proofs.lemmas.List.{length-drop, length-append, length-take-le, take_at, drop_at, set_at, take-append-drop}
 use Rattle.tables.specs.Rows.{row_in, row_out}
 use Rattle.tables.proofs.Shift.{drop_nth, nth_at, nth_below}
 

@@ -1,8 +1,8 @@
 -- What a turn of a part of a table leaves: one row put in, or taken out.
-use Rattle.std.proofs.Common.{◌≡◌, ℕ, zero, suc, ◌+◌, ◌-◌, ◌<◌, ◌≤◌, List, [], ◌∷◌, ◌++◌, length, get_or, take, drop, set, Some, None, sym, refl, ap, ◌∙◌, subst, ap₂, subst₂, append_assoc, add-one, arith}
+use Rattle.std.proofs.Common.{◌≡◌, ℕ, zero, suc, ◌+◌, ◌-◌, ◌<◌, ◌≤◌, List, [], ◌∷◌, ◌++◌, length, take, drop, set, Some, sym, refl, ap, ◌∙◌, subst, ap₂, subst₂, append_assoc, arith}
 use borrow.Rule.Slice.PartMut.{put_mid}
 use Rattle.std.specs.List.{slice_get, insert, remove}
-use Rattle.std.proofs.lemmas.List.{length-take, length-drop, length-set, length-append, length_push, length-take-le, take-take, drop-take, drop-set-add, take_more_set, take-set-le, drop-set-lt, take_at, drop_at, drop-drop, take_more, drop_more, take-append-drop}
+use Rattle.std.proofs.lemmas.List.{length-drop, length-set, length-append, length_push, length-take-le, take-take, drop-take, drop-set-add, take_more_set, take-set-le, drop-set-lt, take_at, drop_at, take-append-drop}
 use Rattle.tables.specs.Rows.{row_in, row_out}
 use Rattle.std.proofs.lemmas.Slice.{take-put_mid, drop-put_mid}
 

@@ -6,7 +6,7 @@ use Rattle.search.specs.declared.frames.TooShort.{TooShort}
 use Rattle.search.proofs.Positions.{nth_set_same}
 use Rattle.model.specs.Limits.{max_interfaces}
 use Rattle.model.specs.Packets.{Decided}
-use Rattle.model.specs.Properties.{Against, BreaksIn, BreaksAt, BreaksFirst, Kept}
+use Rattle.model.specs.Properties.{Against, BreaksIn, BreaksFirst, Kept}
 use Rattle.model.specs.Refusals.{Broken}
 use Rattle.model.specs.Shape.{Domain, Route, Sound}
 use Rattle.model.specs.Tree.{Tree, rules_of, with_rules}

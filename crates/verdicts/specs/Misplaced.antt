@@ -1,5 +1,5 @@
 -- The first standing property that the blocks misplace.
-use Rattle.std.specs.Prelude.{ℕ, ◌≤◌, List, length, Some, None, Ok, Err, Option, Result}
+use Rattle.std.specs.Prelude.{ℕ, ◌≤◌, length, Some, None, Ok, Err, Option, Result}
 use Rattle.search.specs.First.{Nowhere}
 use Rattle.search.specs.declared.frames.TooShort.{TooShort}
 use Rattle.model.specs.Properties.{IsSourceAstray}

@@ -1,6 +1,6 @@
 use Rattle.std.proofs.Common.{length, subst}
 use Rattle.tree.specs.Table.{shape_of}
-use Rattle.register.specs.Offers.{DestinationChecked, SourceChecked}
+use Rattle.register.specs.Offers.{DestinationChecked}
 use Rattle.register.proofs.Offering.{outside_exit, unjoined_exit, source_exit, last_check}
 use Rattle.register.proofs.state.Register.check_offer.Goals as goal
 

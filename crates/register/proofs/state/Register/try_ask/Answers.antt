@@ -1,4 +1,4 @@
-use Rattle.std.proofs.Common.{map, length, sym, refl, ap, ◌∙◌, subst, inl, inr}
+use Rattle.std.proofs.Common.{length, refl, ◌∙◌, inl, inr}
 use Rattle.model.specs.declared.answers.Refusal.TheVariants.{TooShort, NoSuch}
 use Rattle.model.specs.declared.calls.Call.TheVariants.{Ask}
 use Rattle.register.specs.Picture.{asked_as}

@@ -1,7 +1,6 @@
-use Rattle.std.proofs.Common.{sym, refl, ap, ◌∙◌, subst}
-use Rattle.model.specs.Record.{Right}
+use Rattle.std.proofs.Common.{refl, ap, ◌∙◌}
 use Rattle.model.specs.Shape.{branched}
-use Rattle.model.specs.declared.answers.Answer.TheVariants.{Branched, Refused}
+use Rattle.model.specs.declared.answers.Answer.TheVariants.{Branched}
 use Rattle.model.specs.declared.calls.Call.TheVariants.{Branch}
 use Rattle.register.proofs.Growing.{branch_right, branch_refused, branch_same}
 use Rattle.register.proofs.Tries.{tried_refused, register_same}

@@ -1,4 +1,4 @@
-use Rattle.std.proofs.Common.{sym, refl, ap, ◌∙◌, subst}
+use Rattle.std.proofs.Common.{refl, ◌∙◌}
 use Rattle.model.specs.declared.answers.Refusal.TheVariants.{Outside}
 use Rattle.model.specs.declared.calls.Call.TheVariants.{Send}
 use Rattle.verdicts.specs.Passage.{passage_answer}

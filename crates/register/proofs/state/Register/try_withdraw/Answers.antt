@@ -1,4 +1,4 @@
-use Rattle.std.proofs.Common.{sym, refl, ap, ◌∙◌, arith}
+use Rattle.std.proofs.Common.{ap, arith}
 use Rattle.model.specs.declared.answers.Answer.TheVariants.{Done}
 use Rattle.model.specs.declared.answers.Refusal.TheVariants.{NoSuch}
 use Rattle.model.specs.declared.calls.Call.TheVariants.{Withdraw}

@@ -1,4 +1,4 @@
-use Rattle.std.proofs.Common.{◌≡◌, ℕ, sym, ◌∙◌, arith}
+use Rattle.std.proofs.Common.{◌≡◌, ℕ, arith}
 use Rattle.register.proofs.Attaching.{reads_all}
 use Rattle.register.proofs.state.grow.every_interface.Goals as goal
 
