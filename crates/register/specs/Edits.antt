@@ -13,7 +13,7 @@ use Rattle.model.specs.Shape.{Firewall}
 use Rattle.model.specs.Tree.{Tree, with_rules}
 use Rattle.model.specs.declared.answers.Lent.{Lent}
 use Rattle.model.specs.declared.answers.Refusal.{Refusal}
-use Rattle.model.specs.declared.answers.Refusal.TheVariants.{TooShort, Unmatched as LeavesUnmatched, Breaks}
+use Rattle.model.specs.declared.answers.Refusal.TheVariants.{TooShort, Unmatched as LeftUnmatched, Breaks}
 use Rattle.model.specs.declared.calls.Call.{Call}
 use Rattle.model.specs.declared.rules.Packet.{Packet}
 use Rattle.model.specs.declared.rules.Property.{Property}
@@ -70,7 +70,7 @@ module _ {A R V W : Type 0} (addr : A → V → Type 0) (rests : R → W → Typ
 
   -- a packet of the whole that the list leaves unmatched
   abbrev pub UnmatchedShown : Refusal V W → Type 0
-  UnmatchedShown q = (k : Packet V W) × (q ≡ LeavesUnmatched k) × (InWhole addr rests t k × Unmatched addr rests rs k)
+  UnmatchedShown q = (k : Packet V W) × (q ≡ LeftUnmatched k) × (InWhole addr rests t k × Unmatched addr rests rs k)
 
   -- the first property that is broken once firewall f has the list
   abbrev pub BreakShown : ℕ → Refusal V W → Type 0

@@ -16,6 +16,7 @@ impl<A: Kind, R: Kind> Register<A, R> {
     ) -> Answer<A::Value, R::Value>
         ensures { Promise A.Kind.holds R.Kind.holds A.Kind.plain R.Kind.plain self.old (stored memory.entry.rules.now memory.entry.blocks.now memory.entry.properties.now) call (lent_of memory.entry.rules.now memory.entry.blocks.now memory.entry.properties.now memory.entry.packet_frames.now memory.entry.address_frames.now) result self.new (stored memory.exit.0.now memory.exit.1.0.now memory.exit.1.1.0.now) }
     {
+        // Memory that is lent on whole gets no proof, so it is taken apart first.
         let Memory {
             rules,
             blocks,

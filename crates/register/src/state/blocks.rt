@@ -105,6 +105,7 @@ impl<A: Kind, R: Kind> Register<A, R> {
             }
         }
     }
+
     // Takes a block from its domain.
     pub(crate) fn try_take(
         &mut self,

@@ -3,6 +3,7 @@ ghost use Rattle.std.specs.Prelude.{◌≡◌, ◌+◌, ◌-◌, ◌<◌, ◌≤
 ghost use Rattle.std.specs.List.{slice_get};
 ghost use Rattle.tables.specs.Rows.{row_in, row_out};
 
+use crate::slots::read_slot;
 use tables::{insert_row, remove_row};
 
 // So many rows from a place on.
@@ -13,13 +14,6 @@ pub(crate) fn part<T: Copy>(rows: &[T], start: usize, size: usize) -> &[T]
     &rows[start..start + size]
 }
 
-fn row_at<T: Copy>(rows: &[T], at: usize) -> T
-    requires { at < length rows.now }
-    ensures { slice_get rows.now at ≡ Some result }
-{
-    rows[at]
-}
-
 // Puts a row in among the used ones. Answers the row behind them, which is used up.
 pub(crate) fn put_in<T: Copy>(rows: &mut [T], used: usize, at: usize, row: T) -> T
     requires low { at ≤ used }
@@ -27,7 +21,7 @@ pub(crate) fn put_in<T: Copy>(rows: &mut [T], used: usize, at: usize, row: T) ->
     ensures before { slice_get rows.old used ≡ Some result }
     ensures after { rows.new ≡ row_in used at row rows.old }
 {
-    let behind = row_at(rows, used);
+    let behind = read_slot(rows, used);
     let _ = insert_row(rows, used, at, row);
     behind
 }
@@ -48,7 +42,7 @@ pub(crate) fn exchange<T: Copy>(rows: &mut [T], at: usize, row: T) -> T
     ensures before { slice_get rows.old at ≡ Some result }
     ensures after { rows.new ≡ slice_set rows.old at row }
 {
-    let old = row_at(rows, at);
+    let old = read_slot(rows, at);
     rows[at] = row;
     old
 }
@@ -60,7 +54,7 @@ pub(crate) fn take_out<T: Copy>(rows: &mut [T], used: usize, at: usize) -> T
     ensures before { slice_get rows.old at ≡ Some result }
     ensures after { rows.new ≡ row_out used at rows.old }
 {
-    let row = row_at(rows, at);
+    let row = read_slot(rows, at);
     let _ = remove_row(rows, used, at);
     row
 }
