@@ -1,5 +1,6 @@
 pub mod Relations
 pub mod Positions
+pub mod Skipped
 pub mod Walks
 pub mod Sizes
 pub mod Stack

@@ -1,5 +1,5 @@
 -- What stands at a position of a list.
-use Rattle.std.proofs.Common.{◌≡◌, ℕ, zero, suc, ◌+◌, ◌<◌, ◌≤◌, List, [], ◌∷◌, length, get_or, set, Some, sym, refl, ap, subst, arith}
+use Rattle.std.proofs.Common.{◌≡◌, ℕ, zero, suc, ◌+◌, ◌-◌, ◌<◌, ◌≤◌, List, [], ◌∷◌, length, get_or, set, Some, sym, refl, ap, subst, arith}
 use native.Mathlib.Decide.{ℕ_discrete}
 use Rattle.std.specs.List.{slice_get}
 use Rattle.search.specs.First.{Before, Nowhere}
@@ -27,6 +27,10 @@ module _ {X : Type 0} where
   nth_get_or [] i x h e = absurd (omega arith)
   nth_get_or (y ∷ xs) zero x h e = ap Some (sym e)
   nth_get_or (y ∷ xs) (suc i) x h e = nth_get_or xs i x (omega arith) e
+
+  -- the last of the first n, read so
+  pub last_read : (xs : List X) (n : ℕ) (x : X) → 0 < n → n ≤ length xs → x ≡ get_or xs (n - 1) x → slice_get xs (n - 1) ≡ Some x
+  last_read xs n x some few e = nth_get_or xs (n - 1) x (omega arith) e
 
   pub before_none : (fits : X → Type 0) (xs : List X) → Before fits xs 0
   before_none fits xs k y h = absurd (omega arith)

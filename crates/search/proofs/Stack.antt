@@ -61,7 +61,7 @@ module _ {X V W : Type 0} (holds : X → V → Type 0) (region : W → Option X)
     pub room : length es < length fs
     pub few : count ≤ length fs
     pub each : (k : ℕ) (f : Frame W) → k < count → slice_get fs k ≡ Some f → FrameOk k f
-    pub all : (v : V) (m : Match) → target v → Says (row_holds holds region) es v m → Meets wish m → Lies fs count v
+    pub all : (v : V) (m : Option Match) → target v → Says (row_holds holds region) es v m → Meets wish m → Lies fs count v
 
   row_of : (w : W) (x : X) (v : V) → region w ≡ Some x → holds x v → row_holds holds region w v
   row_of w x v e h = subst (λ o. MatchOption o ⊥ (λ y. holds y v)) (sym e) h

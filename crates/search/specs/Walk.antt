@@ -1,5 +1,5 @@
 -- Words for the walk of a region down a list. A region p is given by what it holds; `rows` says what a row holds.
-use Rattle.std.specs.Prelude.{◌≡◌, ℕ, ◌+◌, ◌<◌, ◌≤◌, ◌⊎◌, List, length}
+use Rattle.std.specs.Prelude.{◌≡◌, ℕ, ◌+◌, ◌<◌, ◌≤◌, ◌⊎◌, List, length, Option}
 use Rattle.kinds.specs.Words.{Share, Inside, Disjoint}
 use Rattle.search.specs.First.{Before}
 use Rattle.search.specs.List.{Says, Meets}
@@ -30,10 +30,10 @@ Clear {V} {W} rows es from p = Before (λ (e : Entry W). Share p (rows e.row)) e
 
 -- no value of p has an outcome as wished
 abbrev pub Hopeless : {V W : Type 0} → (W → V → Type 0) → List (Entry W) → Wish → (V → Type 0) → Type 0
-Hopeless {V} rows es wish p = (v : V) (m : Match) → p v → Says rows es v m → Meets wish m → ⊥
+Hopeless {V} rows es wish p = (v : V) (m : Option Match) → p v → Says rows es v m → Meets wish m → ⊥
 
 -- the step where every value has the match m
-abbrev pub Settled : {X : Type 0} → Wish → Match → Step X → Type 0
+abbrev pub Settled : {X : Type 0} → Wish → Option Match → Step X → Type 0
 Settled wish m Steps.TheVariants.Drop = Meets wish m → ⊥
 Settled wish m (Steps.TheVariants.Found n) = (n ≡ m) × Meets wish m
 Settled wish m (Steps.TheVariants.Cut at a b) = ⊥

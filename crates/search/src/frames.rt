@@ -4,7 +4,6 @@ ghost use Rattle.search.specs.List.{row_holds};
 ghost use Rattle.search.specs.Answer.{Searched};
 
 use crate::list::{Entry, Match, Wish};
-use crate::slots::{read_slot, write_slot};
 use crate::walk::{Step, follow};
 use kinds::Kind;
 
@@ -15,11 +14,11 @@ pub struct Frame<R> {
     pub position: usize,
 }
 
-// A value with an outcome as wished, and the match that gives it.
+// A value with an outcome as wished, and the entry that decides it, if one does.
 #[derive(Clone, Copy)]
 pub struct Found<V> {
     pub value: V,
-    pub decided: Match,
+    pub decided: Option<Match>,
 }
 
 // There are fewer frames than entries plus one.
@@ -42,17 +41,13 @@ pub fn search<K: Kind>(
     if frames.len() <= list.len() {
         return Err(TooShort);
     }
-    write_slot(
-        frames,
-        0,
-        Frame {
-            row: target.row(),
-            position: 0,
-        },
-    );
+    frames[0] = Frame {
+        row: target.row(),
+        position: 0,
+    };
     let mut count = 1;
     while count > 0 {
-        let top = read_slot(frames, count - 1);
+        let top = frames[count - 1];
         let Some(region) = K::read(top.row) else {
             unreachable()
         };
@@ -67,22 +62,14 @@ pub fn search<K: Kind>(
                 meeting,
                 apart,
             } => {
-                write_slot(
-                    frames,
-                    count - 1,
-                    Frame {
-                        row: meeting.row(),
-                        position,
-                    },
-                );
-                write_slot(
-                    frames,
-                    count,
-                    Frame {
-                        row: apart.row(),
-                        position: position + 1,
-                    },
-                );
+                frames[count - 1] = Frame {
+                    row: meeting.row(),
+                    position,
+                };
+                frames[count] = Frame {
+                    row: apart.row(),
+                    position: position + 1,
+                };
                 count += 1;
             }
         }

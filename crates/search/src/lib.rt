@@ -5,10 +5,9 @@ mod frames;
 mod list;
 mod lookup;
 mod relation;
-mod slots;
 mod walk;
 
 pub use frames::{Found, Frame, TooShort, search};
-pub use list::{Entry, Match, Outcome, Wish};
+pub use list::{Entry, Match, Wish};
 pub use lookup::outcome_of;
 pub use relation::{lies_inside, share_a_value};

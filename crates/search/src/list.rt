@@ -1,6 +1,6 @@
 // Lists and what is asked of them.
-ghost use Rattle.std.specs.Prelude.{◌≡◌, Decides};
-ghost use Rattle.search.specs.List.{outcome, Meets};
+ghost use Rattle.std.specs.Prelude.{Option, Decides};
+ghost use Rattle.search.specs.List.{Meets};
 
 // A region, as a row of its kind, and the outcome number of the values that it is the first to hold.
 #[derive(Clone, Copy)]
@@ -9,46 +9,29 @@ pub struct Entry<R> {
     pub outcome: u32,
 }
 
-// What comes of a value in a list.
+// The entry that decides a value: the first that holds it, by position and outcome number.
 #[derive(Clone, Copy, PartialEq, Debug)]
-pub enum Outcome {
-    Of(u32),
-    Unmatched,
+pub struct Match {
+    pub position: usize,
+    pub outcome: u32,
 }
 
-// Which entry decides a value: the first that holds it, by position and outcome number.
-#[derive(Clone, Copy, PartialEq, Debug)]
-pub enum Match {
-    First { position: usize, outcome: u32 },
-    Unmatched,
-}
-
-impl Match {
-    pub fn outcome(self) -> Outcome
-        ensures { result ≡ outcome self }
-    {
-        match self {
-            Match::First { outcome, .. } => Outcome::Of(outcome),
-            Match::Unmatched => Outcome::Unmatched,
-        }
-    }
-}
-
-// What is wished of an outcome.
+// What is wished of an outcome. A value that no entry holds is unmatched: its outcome is `None`.
 #[derive(Clone, Copy)]
 pub enum Wish {
-    Is(Outcome),
-    IsNot(Outcome),
+    Is(Option<u32>),
+    IsNot(Option<u32>),
 }
 
 impl Wish {
-    // Whether this match has an outcome as wished.
-    pub fn met_by(self, found: Match) -> bool
+    // Whether this match, or that there is none, has an outcome as wished.
+    pub fn met_by(self, found: Option<Match>) -> bool
         ensures { Decides result (Meets self found) }
     {
+        let outcome = found.map(|entry| entry.outcome);
         match self {
-            Wish::Is(wished) => found.outcome() == wished,
-            Wish::IsNot(wished) => found.outcome() != wished,
+            Wish::Is(wished) => outcome == wished,
+            Wish::IsNot(wished) => outcome != wished,
         }
     }
 }

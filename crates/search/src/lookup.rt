@@ -9,23 +9,20 @@ use kinds::Kind;
 fn row_has<K: Kind>(row: K::Row, value: K::Value) -> bool
     ensures { Decides result (row_holds K.Kind.holds K.Kind.region row value) }
 {
-    match K::read(row) {
-        Some(region) => region.has(value),
-        None => false,
-    }
+    K::read(row).is_some_and(|region| region.has(value))
 }
 
-// Which entry decides the value, with its outcome.
-pub fn outcome_of<K: Kind>(list: &[Entry<K::Row>], value: K::Value) -> Match
+// The entry that decides the value, if one holds it.
+pub fn outcome_of<K: Kind>(list: &[Entry<K::Row>], value: K::Value) -> Option<Match>
     ensures { Says (row_holds K.Kind.holds K.Kind.region) list.now value result }
 {
     for (position, entry) in list.iter().enumerate() {
         if row_has::<K>(entry.row, value) {
-            return Match::First {
+            return Some(Match {
                 position,
                 outcome: entry.outcome,
-            };
+            });
         }
     }
-    Match::Unmatched
+    None
 }

@@ -5,7 +5,6 @@ ghost use Rattle.search.specs.Walk.{Clear, Hopeless, Settled, Stepped};
 
 use crate::list::{Entry, Match, Wish};
 use crate::relation::{Relation, relation_to};
-use crate::slots::read_slot;
 use kinds::Kind;
 
 // What comes of a region at some position of a list.
@@ -13,8 +12,8 @@ use kinds::Kind;
 pub(crate) enum Step<K> {
     // None of its values has a wished outcome.
     Drop,
-    // All of its values have this match, which is as wished.
-    Found(Match),
+    // All of its values have this match, or none, as wished.
+    Found(Option<Match>),
     // The entry at this position cuts it.
     Cut {
         position: usize,
@@ -24,7 +23,7 @@ pub(crate) enum Step<K> {
 }
 
 // The step for a region all of whose values have this match.
-fn settled<K: Kind>(wish: Wish, found: Match) -> Step<K>
+fn settled<K: Kind>(wish: Wish, found: Option<Match>) -> Step<K>
     ensures { Settled wish found result }
 {
     if wish.met_by(found) {
@@ -40,12 +39,11 @@ fn is_hopeless<K: Kind>(list: &[Entry<K::Row>], region: K, from: usize, wish: Wi
     requires { Clear (row_holds K.Kind.holds K.Kind.region) list.now from (K.Kind.holds region) }
     ensures { result ≡ true → Hopeless (row_holds K.Kind.holds K.Kind.region) list.now wish (K.Kind.holds region) }
 {
-    for position in from..list.len() {
-        let entry = read_slot(list, position);
-        let wished = wish.met_by(Match::First {
+    for (position, entry) in list.iter().enumerate().skip(from) {
+        let wished = wish.met_by(Some(Match {
             position,
             outcome: entry.outcome,
-        });
+        }));
         match relation_to(region, entry.row) {
             Relation::Apart => {}
             Relation::Inside => return !wished,
@@ -56,7 +54,7 @@ fn is_hopeless<K: Kind>(list: &[Entry<K::Row>], region: K, from: usize, wish: Wi
             }
         }
     }
-    !wish.met_by(Match::Unmatched)
+    !wish.met_by(None)
 }
 
 // Follows a region that no entry before `from` meets, down to the entry that holds it or cuts it.
@@ -64,16 +62,15 @@ pub(crate) fn follow<K: Kind>(list: &[Entry<K::Row>], region: K, from: usize, wi
     requires { Clear (row_holds K.Kind.holds K.Kind.region) list.now from (K.Kind.holds region) }
     ensures { Stepped K.Kind.holds (row_holds K.Kind.holds K.Kind.region) list.now (K.Kind.holds region) from wish result }
 {
-    for position in from..list.len() {
-        let entry = read_slot(list, position);
+    for (position, entry) in list.iter().enumerate().skip(from) {
         match relation_to(region, entry.row) {
             Relation::Apart => {}
             Relation::Inside => return settled(
                 wish,
-                Match::First {
+                Some(Match {
                     position,
                     outcome: entry.outcome,
-                },
+                }),
             ),
             Relation::Cut { meeting, apart } => {
                 if is_hopeless(list, region, position, wish) {
@@ -87,5 +84,5 @@ pub(crate) fn follow<K: Kind>(list: &[Entry<K::Row>], region: K, from: usize, wi
             }
         }
     }
-    settled(wish, Match::Unmatched)
+    settled(wish, None)
 }
