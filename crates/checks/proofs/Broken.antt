@@ -10,40 +10,44 @@ use Rattle.std.proofs.lemmas.List.{length-map}
 use Rattle.search.specs.Answer.{Witness, Searched}
 use Rattle.search.specs.List.{Says, outcome}
 use Rattle.search.specs.Walk.{Hopeless}
+use Rattle.search.proofs.Walks.{matched}
 use Rattle.search.specs.declared.frames.Found.{Found}
 use Rattle.kinds.specs.declared.set.SetRow.{SetRow}
 use Rattle.search.specs.declared.list.Entry.{Entry}
-use Rattle.search.specs.declared.list.Match as Matched
 use Rattle.search.specs.declared.list.Match.{Match}
-use Rattle.search.specs.declared.list.Outcome as Outcomes
 use Rattle.search.specs.declared.list.Wish.TheVariants.{Is}
 use Rattle.model.specs.Limits.{max_interfaces}
-use Rattle.model.specs.Packets.{Decided, Unmatched}
+use Rattle.model.specs.Packets.{Decided, Unmatched, decision_number, packet_of, value_of}
 use Rattle.model.specs.Tree.{Tree}
 use Rattle.model.specs.declared.rules.Decision.{Decision}
 use Rattle.model.specs.declared.rules.Packet.{Packet}
 use Rattle.model.specs.declared.rules.Property.{Property}
 use Rattle.model.specs.declared.rules.Rule.{Rule}
-use Rattle.checks.specs.Breaks.{decided_against, BreaksList, BreakFound, UnmatchedFound, packet_of, packet_in}
-use Rattle.checks.specs.Rows.{decision_number, rule_entry}
-use Rattle.checks.proofs.Lists.{Holds, Rows, value_of, says_decided, decided_says, says_unmatched, unmatched_says}
+use Rattle.checks.specs.Breaks.{decided_against, BreaksList, BreakFound, UnmatchedFound}
+use Rattle.checks.specs.Rows.{rule_entry}
+use Rattle.checks.proofs.Lists.{Holds, Rows, says_decided, decided_says, says_unmatched, unmatched_says}
+
+-- the packet that a search has found
+abbrev pub packet_in : {V W : Type 0} → Option (Found (Pair ℕ (Pair V (Pair V W)))) → Option (Packet V W)
+packet_in None = None
+packet_in (Some f) = Some (packet_of f.value)
 
 module _ {A R V W X Y : Type 0} (addr : A → V → Type 0) (rests : R → W → Type 0) (pa : A → X) (pr : R → Y) (ra : X → Option A) (rr : Y → Option R)
     (reads-a : (x : A) → ra (pa x) ≡ Some x) (reads-r : (x : R) → rr (pr x) ≡ Some x) where
   -- a match with this outcome number is a decision
-  met_decided : (rs : List (Rule A R)) (v : Pair ℕ (Pair V (Pair V W))) (w : Decision) (m : Match)
-      → Says (Rows addr rests pa pr ra rr reads-a reads-r) (map (rule_entry pa pr) rs) v m → outcome m ≡ Outcomes.TheVariants.Of (decision_number w) → (n : ℕ) × Decided addr rests rs (packet_of v) n w
-  met_decided rs v w (Matched.TheVariants.First n o) says met =
-      let same : o ≡ decision_number w = cc in
-      (n, says_decided addr rests pa pr ra rr reads-a reads-r rs (packet_of v) n w (subst (λ k. Says (Rows addr rests pa pr ra rr reads-a reads-r) (map (rule_entry pa pr) rs) v (Matched.TheVariants.First n k)) same says))
-  met_decided rs v w Matched.TheVariants.Unmatched says met = let z : ◌≡◌ {A = ℕ} 0 1 = cc in absurd (omega arith)
+  met_decided : (rs : List (Rule A R)) (v : Pair ℕ (Pair V (Pair V W))) (w : Decision) (m : Option Match)
+      → Says (Rows addr rests pa pr ra rr reads-a reads-r) (map (rule_entry pa pr) rs) v m → outcome m ≡ Some (decision_number w) → (n : ℕ) × Decided addr rests rs (packet_of v) n w
+  met_decided rs v w (Some m) says met =
+      let same : m.outcome ≡ decision_number w = cc in
+      (m.position, says_decided addr rests pa pr ra rr reads-a reads-r rs (packet_of v) m.position w (subst (λ k. Says (Rows addr rests pa pr ra rr reads-a reads-r) (map (rule_entry pa pr) rs) v (matched m.position k)) same says))
+  met_decided rs v w None says met = let z : ◌≡◌ {A = ℕ} 0 1 = cc in absurd (omega arith)
 
   module _ (rs : List (Rule A R)) (p : Property A R) (i : ℕ) (one : Set) (real : i < max_interfaces) (only : Exactly (set_holds one) (λ v. v ≡ i)) where
     abbrev pub target : Pair Set (Pair A (Pair A R))
     target = record { left = one; right = record { left = p.source; right = record { left = p.destination; right = p.rest } } }
 
     pub witness_breaks : (f : Found (Pair ℕ (Pair V (Pair V W))))
-        → Witness (Rows addr rests pa pr ra rr reads-a reads-r) (map (rule_entry pa pr) rs) (Holds addr rests pa pr ra rr reads-a reads-r target) (Is (Outcomes.TheVariants.Of (decision_number (decided_against p.sort)))) f
+        → Witness (Rows addr rests pa pr ra rr reads-a reads-r) (map (rule_entry pa pr) rs) (Holds addr rests pa pr ra rr reads-a reads-r target) (Is (Some (decision_number (decided_against p.sort)))) f
         → BreaksList addr rests rs p i (packet_of f.value)
     witness_breaks f w = record {
       source = w.held.1.0;
@@ -54,22 +58,22 @@ module _ {A R V W X Y : Type 0} (addr : A → V → Type 0) (rests : R → W →
       against = met_decided rs f.value (decided_against p.sort) f.decided w.says w.met;
     }
 
-    pub hopeless_keeps : Hopeless (Rows addr rests pa pr ra rr reads-a reads-r) (map (rule_entry pa pr) rs) (Is (Outcomes.TheVariants.Of (decision_number (decided_against p.sort)))) (Holds addr rests pa pr ra rr reads-a reads-r target)
+    pub hopeless_keeps : Hopeless (Rows addr rests pa pr ra rr reads-a reads-r) (map (rule_entry pa pr) rs) (Is (Some (decision_number (decided_against p.sort)))) (Holds addr rests pa pr ra rr reads-a reads-r target)
         → (k : Packet V W) → BreaksList addr rests rs p i k → ⊥
     hopeless_keeps none k b =
-        none (value_of k) (Matched.TheVariants.First b.against.0 (decision_number (decided_against p.sort))) (only.1 _ b.entered, (b.source, (b.destination, b.rest)))
+        none (value_of k) (matched b.against.0 (decision_number (decided_against p.sort))) (only.1 _ b.entered, (b.source, (b.destination, b.rest)))
         (decided_says addr rests pa pr ra rr reads-a reads-r rs k b.against.0 (decided_against p.sort) b.against.1) refl
 
     -- the same with list, number and target as a call has them
     module _ (es : List (Entry (Pair SetRow (Pair X (Pair X Y))))) (n : ℕ) (aim : Pair Set (Pair A (Pair A R))) (listed : es ≡ map (rule_entry pa pr) rs)
         (wished : n ≡ decision_number (decided_against p.sort)) (aimed : aim ≡ target) where
-      pub called_breaks : (f : Found (Pair ℕ (Pair V (Pair V W)))) → Witness (Rows addr rests pa pr ra rr reads-a reads-r) es (Holds addr rests pa pr ra rr reads-a reads-r aim) (Is (Outcomes.TheVariants.Of n)) f → BreaksList addr rests rs p i (packet_of f.value)
-      called_breaks f w = witness_breaks f (subst₃ (λ l m x. Witness (Rows addr rests pa pr ra rr reads-a reads-r) l (Holds addr rests pa pr ra rr reads-a reads-r x) (Is (Outcomes.TheVariants.Of m)) f) listed wished aimed w)
+      pub called_breaks : (f : Found (Pair ℕ (Pair V (Pair V W)))) → Witness (Rows addr rests pa pr ra rr reads-a reads-r) es (Holds addr rests pa pr ra rr reads-a reads-r aim) (Is (Some n)) f → BreaksList addr rests rs p i (packet_of f.value)
+      called_breaks f w = witness_breaks f (subst₃ (λ l m x. Witness (Rows addr rests pa pr ra rr reads-a reads-r) l (Holds addr rests pa pr ra rr reads-a reads-r x) (Is (Some m)) f) listed wished aimed w)
 
-      pub called_keeps : Hopeless (Rows addr rests pa pr ra rr reads-a reads-r) es (Is (Outcomes.TheVariants.Of n)) (Holds addr rests pa pr ra rr reads-a reads-r aim) → (k : Packet V W) → BreaksList addr rests rs p i k → ⊥
-      called_keeps none = hopeless_keeps (subst₃ (λ l m x. Hopeless (Rows addr rests pa pr ra rr reads-a reads-r) l (Is (Outcomes.TheVariants.Of m)) (Holds addr rests pa pr ra rr reads-a reads-r x)) listed wished aimed none)
+      pub called_keeps : Hopeless (Rows addr rests pa pr ra rr reads-a reads-r) es (Is (Some n)) (Holds addr rests pa pr ra rr reads-a reads-r aim) → (k : Packet V W) → BreaksList addr rests rs p i k → ⊥
+      called_keeps none = hopeless_keeps (subst₃ (λ l m x. Hopeless (Rows addr rests pa pr ra rr reads-a reads-r) l (Is (Some m)) (Holds addr rests pa pr ra rr reads-a reads-r x)) listed wished aimed none)
 
-      pub called_found : (frames : ℕ) (o : Option (Found (Pair ℕ (Pair V (Pair V W))))) → Searched (Rows addr rests pa pr ra rr reads-a reads-r) es (Holds addr rests pa pr ra rr reads-a reads-r aim) (Is (Outcomes.TheVariants.Of n)) frames (Ok o) → BreakFound addr rests rs p i frames (Ok (packet_in o))
+      pub called_found : (frames : ℕ) (o : Option (Found (Pair ℕ (Pair V (Pair V W))))) → Searched (Rows addr rests pa pr ra rr reads-a reads-r) es (Holds addr rests pa pr ra rr reads-a reads-r aim) (Is (Some n)) frames (Ok o) → BreakFound addr rests rs p i frames (Ok (packet_in o))
       called_found frames None s = (let e = ap length listed ∙ length-map rs (rule_entry pa pr) in omega (arith, s.0), called_keeps s.1)
       called_found frames (Some f) s = (let e = ap length listed ∙ length-map rs (rule_entry pa pr) in omega (arith, s.0), called_breaks f s.1)
 
@@ -82,16 +86,16 @@ module _ {A R V W X Y : Type 0} (addr : A → V → Type 0) (rests : R → W →
     of_parts : (v : Pair V (Pair V W)) → addr t.addresses v.left × (addr t.addresses v.right.left × rests t.rests v.right.right) → pair_holds addr (pair_holds addr rests) aim.right v
     of_parts v h = subst (λ x. pair_holds addr (pair_holds addr rests) x v) (sym parts) h
 
-    met_unmatched : (v : Pair ℕ (Pair V (Pair V W))) (m : Match) → Says (Rows addr rests pa pr ra rr reads-a reads-r) (map (rule_entry pa pr) rs) v m → outcome m ≡ Outcomes.TheVariants.Unmatched → Unmatched addr rests rs (packet_of v)
-    met_unmatched v (Matched.TheVariants.First n o) says met = let z : ◌≡◌ {A = ℕ} 0 1 = cc in absurd (omega arith)
-    met_unmatched v Matched.TheVariants.Unmatched says met = says_unmatched addr rests pa pr ra rr reads-a reads-r rs (packet_of v) says
+    met_unmatched : (v : Pair ℕ (Pair V (Pair V W))) (m : Option Match) → Says (Rows addr rests pa pr ra rr reads-a reads-r) (map (rule_entry pa pr) rs) v m → outcome m ≡ None → Unmatched addr rests rs (packet_of v)
+    met_unmatched v (Some m) says met = let z : ◌≡◌ {A = ℕ} 0 1 = cc in absurd (omega arith)
+    met_unmatched v None says met = says_unmatched addr rests pa pr ra rr reads-a reads-r rs (packet_of v) says
 
-    pub unmatched_found : (frames : ℕ) (o : Option (Found (Pair ℕ (Pair V (Pair V W))))) → Searched (Rows addr rests pa pr ra rr reads-a reads-r) es (Holds addr rests pa pr ra rr reads-a reads-r aim) (Is Outcomes.TheVariants.Unmatched) frames (Ok o) → UnmatchedFound addr rests t rs frames (Ok (packet_in o))
+    pub unmatched_found : (frames : ℕ) (o : Option (Found (Pair ℕ (Pair V (Pair V W))))) → Searched (Rows addr rests pa pr ra rr reads-a reads-r) es (Holds addr rests pa pr ra rr reads-a reads-r aim) (Is None) frames (Ok o) → UnmatchedFound addr rests t rs frames (Ok (packet_in o))
     unmatched_found frames None s = (
       let e = ap length listed ∙ length-map rs (rule_entry pa pr) in omega (arith, s.0),
       λ k whole none.
-          s.1 (value_of k) Matched.TheVariants.Unmatched (interfaces.1 _ whole.interface, of_parts _ (whole.source, (whole.destination, whole.rest)))
-          (subst (λ l. Says (Rows addr rests pa pr ra rr reads-a reads-r) l (value_of k) Matched.TheVariants.Unmatched) (sym listed) (unmatched_says addr rests pa pr ra rr reads-a reads-r rs k none)) refl,
+          s.1 (value_of k) None (interfaces.1 _ whole.interface, of_parts _ (whole.source, (whole.destination, whole.rest)))
+          (subst (λ l. Says (Rows addr rests pa pr ra rr reads-a reads-r) l (value_of k) None) (sym listed) (unmatched_says addr rests pa pr ra rr reads-a reads-r rs k none)) refl,
     )
     unmatched_found frames (Some f) s =
         let held = s.1.held in

@@ -1,5 +1,5 @@
 -- A table's rows of rules say what the rules say.
-use Rattle.std.proofs.Common.{◌≡◌, ℕ, List, map, Some, Option, sym, refl, ap, ◌∙◌, subst, arith, MatchOption}
+use Rattle.std.proofs.Common.{◌≡◌, ℕ, List, map, Some, None, Option, sym, refl, ap, ◌∙◌, subst, arith, MatchOption}
 use mathlib.Core.HLevel.{×_prop}
 use native.Mathlib.Bridge.{le_prop}
 use Rattle.kinds.specs.Pair.{both, pair_holds}
@@ -10,19 +10,14 @@ use Rattle.kinds.specs.declared.set.SetRow.{SetRow}
 use Rattle.kinds.specs.Makes.{provided_yes}
 use Rattle.search.specs.List.{row_holds, Says}
 use Rattle.search.specs.declared.list.Entry.{Entry}
-use Rattle.search.specs.declared.list.Match as Matched
-use Rattle.search.specs.declared.list.Match.{Match}
-use Rattle.model.specs.Packets.{Matches, Decided, Unmatched}
+use Rattle.search.proofs.Walks.{matched}
+use Rattle.model.specs.Packets.{Matches, Decided, Unmatched, decision_number, value_of}
 use Rattle.model.specs.declared.rules.Decision.{Decision}
 use Rattle.model.specs.declared.rules.Decision.TheVariants.{Accept, Discard}
 use Rattle.model.specs.declared.rules.Packet.{Packet}
 use Rattle.model.specs.declared.rules.Rule.{Rule}
-use Rattle.checks.specs.Rows.{decision_number, rule_row, rule_entry}
+use Rattle.checks.specs.Rows.{rule_row, rule_entry}
 use Rattle.checks.proofs.Mapped.{first_map, first_unmap, nowhere_map, nowhere_unmap}
-
--- a packet as the search has it
-abbrev pub value_of : {V W : Type 0} → Packet V W → Pair ℕ (Pair V (Pair V W))
-value_of k = record { left = k.interface; right = record { left = k.source; right = record { left = k.destination; right = k.rest } } }
 
 pub number_one : (w x : Decision) → decision_number w ≡ decision_number x → w ≡ x
 number_one Accept Accept e = refl
@@ -60,17 +55,17 @@ module _ {A R V W X Y : Type 0} (addr : A → V → Type 0) (rests : R → W →
       record { interface = p.0; source = p.1.0; destination = p.1.1.0; rest = p.1.1.1 }
 
   -- the rows decide a packet where the rules do, and as they do
-  pub says_decided : (rs : List (Rule A R)) (k : Packet V W) (n : ℕ) (w : Decision) → Says Rows (map (rule_entry pa pr) rs) (value_of k) (Matched.TheVariants.First n (decision_number w)) → Decided addr rests rs k n w
+  pub says_decided : (rs : List (Rule A R)) (k : Packet V W) (n : ℕ) (w : Decision) → Says Rows (map (rule_entry pa pr) rs) (value_of k) (matched n (decision_number w)) → Decided addr rests rs k n w
   says_decided rs k n w (e, f, o) =
       let (r, first, is) = first_unmap (rule_entry pa pr) (λ (q : Rule A R). Matches addr rests q k) (λ (x : Entry (Pair SetRow (Pair X (Pair X Y)))). Rows x.row (value_of k)) (matches_holds k) (holds_matches k) rs n e f in
       (r, first, number_one r.decision w (sym (ap (λ (x : Entry (Pair SetRow (Pair X (Pair X Y)))). x.outcome) is) ∙ o))
 
-  pub decided_says : (rs : List (Rule A R)) (k : Packet V W) (n : ℕ) (w : Decision) → Decided addr rests rs k n w → Says Rows (map (rule_entry pa pr) rs) (value_of k) (Matched.TheVariants.First n (decision_number w))
+  pub decided_says : (rs : List (Rule A R)) (k : Packet V W) (n : ℕ) (w : Decision) → Decided addr rests rs k n w → Says Rows (map (rule_entry pa pr) rs) (value_of k) (matched n (decision_number w))
   decided_says rs k n w (r, first, is) =
       (rule_entry pa pr r, first_map (rule_entry pa pr) (λ (q : Rule A R). Matches addr rests q k) (λ (x : Entry (Pair SetRow (Pair X (Pair X Y)))). Rows x.row (value_of k)) (matches_holds k) (holds_matches k) rs n r first, ap decision_number is)
 
-  pub says_unmatched : (rs : List (Rule A R)) (k : Packet V W) → Says Rows (map (rule_entry pa pr) rs) (value_of k) Matched.TheVariants.Unmatched → Unmatched addr rests rs k
+  pub says_unmatched : (rs : List (Rule A R)) (k : Packet V W) → Says Rows (map (rule_entry pa pr) rs) (value_of k) None → Unmatched addr rests rs k
   says_unmatched rs k none = nowhere_unmap (rule_entry pa pr) (λ (q : Rule A R). Matches addr rests q k) (λ (x : Entry (Pair SetRow (Pair X (Pair X Y)))). Rows x.row (value_of k)) (matches_holds k) (holds_matches k) rs none
 
-  pub unmatched_says : (rs : List (Rule A R)) (k : Packet V W) → Unmatched addr rests rs k → Says Rows (map (rule_entry pa pr) rs) (value_of k) Matched.TheVariants.Unmatched
+  pub unmatched_says : (rs : List (Rule A R)) (k : Packet V W) → Unmatched addr rests rs k → Says Rows (map (rule_entry pa pr) rs) (value_of k) None
   unmatched_says rs k none = nowhere_map (rule_entry pa pr) (λ (q : Rule A R). Matches addr rests q k) (λ (x : Entry (Pair SetRow (Pair X (Pair X Y)))). Rows x.row (value_of k)) (matches_holds k) (holds_matches k) rs none

@@ -6,18 +6,20 @@ use Rattle.search.specs.Answer.{Searched}
 use Rattle.search.specs.List.{row_holds, Says, outcome}
 use Rattle.search.specs.declared.frames.Found.{Found}
 use Rattle.search.specs.declared.list.Entry.{Entry}
-use Rattle.search.specs.declared.list.Match as Matched
 use Rattle.search.specs.declared.list.Match.{Match}
-use Rattle.search.specs.declared.list.Outcome as Outcomes
-use Rattle.search.specs.declared.list.Outcome.{Outcome}
 use Rattle.search.specs.declared.list.Wish.TheVariants.{IsNot}
 use Rattle.model.specs.Properties.{Of}
 use Rattle.model.specs.Tree.{Tree, Block}
 use Rattle.model.proofs.Firsts.{first_or_none}
 use Rattle.model.proofs.Meanings.{of_one}
-use Rattle.checks.specs.Addresses.{OwnedApart, AstrayFound, Home, domain_in, value_in}
+use Rattle.checks.specs.Addresses.{OwnedApart, AstrayFound, Home, domain_in}
 use Rattle.checks.specs.Rows.{block_entry}
 use Rattle.checks.proofs.Mapped.{first_map, first_unmap, nowhere_map, nowhere_unmap}
+
+-- the value that a search has found
+abbrev pub value_in : {V : Type 0} → Option (Found V) → Option V
+value_in None = None
+value_in (Some f) = Some f.value
 
 module _ {A R V W X : Type 0} (addr : A → V → Type 0) (rests : R → W → Type 0) (pa : A → X) (ra : X → Option A) (reads : (x : A) → ra (pa x) ≡ Some x) (t : Tree A R) where
   abbrev Rows : X → V → Type 0
@@ -30,45 +32,45 @@ module _ {A R V W X : Type 0} (addr : A → V → Type 0) (rests : R → W → T
   out v b h = subst (λ o. MatchOption o ⊥ (λ x. addr x v)) (reads b.region) h
 
   -- a match in the rows is the domain of the address
-  pub says_of : (v : V) (m : Match) → Says Rows (map (block_entry pa) t.blocks) v m → Of addr rests t v (domain_in m)
-  says_of v (Matched.TheVariants.First k d) (e, f, o) =
-      let (b, first, is) = first_unmap (block_entry pa) (λ (c : Block A). addr c.region v) (λ (x : Entry X). Rows x.row v) (into v) (out v) t.blocks k e f in
-      inl (k, b, first.here, first.fit, sym (ap (λ (x : Entry X). x.outcome) is) ∙ o)
-  says_of v Matched.TheVariants.Unmatched none =
+  pub says_of : (v : V) (m : Option Match) → Says Rows (map (block_entry pa) t.blocks) v m → Of addr rests t v (domain_in m)
+  says_of v (Some m) (e, f, o) =
+      let (b, first, is) = first_unmap (block_entry pa) (λ (c : Block A). addr c.region v) (λ (x : Entry X). Rows x.row v) (into v) (out v) t.blocks m.position e f in
+      inl (m.position, b, first.here, first.fit, sym (ap (λ (x : Entry X). x.outcome) is) ∙ o)
+  says_of v None none =
       inr (refl, nowhere_unmap (block_entry pa) (λ (c : Block A). addr c.region v) (λ (x : Entry X). Rows x.row v) (into v) (out v) t.blocks none)
 
   -- the same, of rows as a call has them
-  pub called_of : (es : List (Entry X)) → es ≡ map (block_entry pa) t.blocks → (v : V) (m : Match) → Says Rows es v m → Of addr rests t v (domain_in m)
+  pub called_of : (es : List (Entry X)) → es ≡ map (block_entry pa) t.blocks → (v : V) (m : Option Match) → Says Rows es v m → Of addr rests t v (domain_in m)
   called_of es is v m says = says_of v m (subst (λ l. Says Rows l v m) is says)
 
   -- where an address can be told, the rows have a match for it
-  pub says_some : ((x : A) (v : V) → Dec (addr x v)) → (v : V) → (m : Match) × Says Rows (map (block_entry pa) t.blocks) v m
+  pub says_some : ((x : A) (v : V) → Dec (addr x v)) → (v : V) → (m : Option Match) × Says Rows (map (block_entry pa) t.blocks) v m
   says_some tell v = elim (first_or_none (λ (b : Block A). addr b.region v) (λ b. tell b.region v) t.blocks) [
-    | inl (k, b, f) ↦ (Matched.TheVariants.First k b.domain, (block_entry pa b, first_map (block_entry pa) (λ (c : Block A). addr c.region v) (λ (x : Entry X). Rows x.row v) (into v) (out v) t.blocks k b f, refl))
-    | inr none ↦ (Matched.TheVariants.Unmatched, nowhere_map (block_entry pa) (λ (c : Block A). addr c.region v) (λ (x : Entry X). Rows x.row v) (into v) (out v) t.blocks none)
+    | inl (k, b, f) ↦ (Some (record { position = k; outcome = b.domain }), (block_entry pa b, first_map (block_entry pa) (λ (c : Block A). addr c.region v) (λ (x : Entry X). Rows x.row v) (into v) (out v) t.blocks k b f, refl))
+    | inr none ↦ (None, nowhere_map (block_entry pa) (λ (c : Block A). addr c.region v) (λ (x : Entry X). Rows x.row v) (into v) (out v) t.blocks none)
   ]
 
   module _ (ok : OwnedApart addr t.blocks) where
     -- a match of a block is not of domain 0
-    says_owned : (v : V) (k d : ℕ) → Says Rows (map (block_entry pa) t.blocks) v (Matched.TheVariants.First k d) → d ≡ 0 → ⊥
-    says_owned v k d (e, f, o) zero-d =
-        let (b, first, is) = first_unmap (block_entry pa) (λ (c : Block A). addr c.region v) (λ (x : Entry X). Rows x.row v) (into v) (out v) t.blocks k e f in
-        ok.owned k b first.here (sym (ap (λ (x : Entry X). x.outcome) is) ∙ o ∙ zero-d)
+    says_owned : (v : V) (m : Match) → Says Rows (map (block_entry pa) t.blocks) v (Some m) → m.outcome ≡ 0 → ⊥
+    says_owned v m (e, f, o) zero-d =
+        let (b, first, is) = first_unmap (block_entry pa) (λ (c : Block A). addr c.region v) (λ (x : Entry X). Rows x.row v) (into v) (out v) t.blocks m.position e f in
+        ok.owned m.position b first.here (sym (ap (λ (x : Entry X). x.outcome) is) ∙ o ∙ zero-d)
 
     -- an outcome is that of the domain exactly where the address is of it
-    pub home_of : (v : V) (d : ℕ) (o : Outcome) (m : Match) → Home d o → Says Rows (map (block_entry pa) t.blocks) v m → domain_in m ≡ d → outcome m ≡ o
-    home_of v d o (Matched.TheVariants.First k e) (inl (zero-d, is)) says same = absurd (says_owned v k e says (same ∙ zero-d))
-    home_of v d o (Matched.TheVariants.First k e) (inr (n, is)) says same = ap Outcomes.TheVariants.Of same ∙ sym is
-    home_of v d o Matched.TheVariants.Unmatched (inl (zero-d, is)) says same = sym is
-    home_of v d o Matched.TheVariants.Unmatched (inr (n, is)) says same = absurd (n (sym same))
+    pub home_of : (v : V) (d : ℕ) (o : Option ℕ) (m : Option Match) → Home d o → Says Rows (map (block_entry pa) t.blocks) v m → domain_in m ≡ d → outcome m ≡ o
+    home_of v d o (Some m) (inl (zero-d, is)) says same = absurd (says_owned v m says (same ∙ zero-d))
+    home_of v d o (Some m) (inr (n, is)) says same = ap Some same ∙ sym is
+    home_of v d o None (inl (zero-d, is)) says same = sym is
+    home_of v d o None (inr (n, is)) says same = absurd (n (sym same))
 
-    pub of_home : (v : V) (d : ℕ) (o : Outcome) (m : Match) → Home d o → outcome m ≡ o → domain_in m ≡ d
-    of_home v d o (Matched.TheVariants.First k e) (inl (zero-d, is)) same = let z : ◌≡◌ {A = ℕ} 0 1 = cc in absurd (omega arith)
-    of_home v d o (Matched.TheVariants.First k e) (inr (n, is)) same = cc
-    of_home v d o Matched.TheVariants.Unmatched (inl (zero-d, is)) same = sym zero-d
-    of_home v d o Matched.TheVariants.Unmatched (inr (n, is)) same = let z : ◌≡◌ {A = ℕ} 0 1 = cc in absurd (omega arith)
+    pub of_home : (v : V) (d : ℕ) (o : Option ℕ) (m : Option Match) → Home d o → outcome m ≡ o → domain_in m ≡ d
+    of_home v d o (Some m) (inl (zero-d, is)) same = let z : ◌≡◌ {A = ℕ} 0 1 = cc in absurd (omega arith)
+    of_home v d o (Some m) (inr (n, is)) same = cc
+    of_home v d o None (inl (zero-d, is)) same = sym zero-d
+    of_home v d o None (inr (n, is)) same = let z : ◌≡◌ {A = ℕ} 0 1 = cc in absurd (omega arith)
 
-    pub astray_found : ((x : A) (v : V) → Dec (addr x v)) → (x : A) (d : ℕ) (o : Outcome) → Home d o → (frames : ℕ) (r : Option (Found V))
+    pub astray_found : ((x : A) (v : V) → Dec (addr x v)) → (x : A) (d : ℕ) (o : Option ℕ) → Home d o → (frames : ℕ) (r : Option (Found V))
         → Searched Rows (map (block_entry pa) t.blocks) (addr x) (IsNot o) frames (Ok r) → AstrayFound addr rests t x d frames (Ok (value_in r))
     astray_found tell x d o at frames None s = (
       let e = length-map t.blocks (block_entry pa) in omega (arith, s.0),
@@ -86,6 +88,6 @@ module _ {A R V W X : Type 0} (addr : A → V → Type 0) (rests : R → W → T
           s.1.met (home_of f.value d o f.decided at s.1.says (of_one addr rests t ok.apart f.value _ d (says_of f.value f.decided s.1.says) of)),
     )
 
-    pub called_astray : (es : List (Entry X)) → es ≡ map (block_entry pa) t.blocks → ((x : A) (v : V) → Dec (addr x v)) → (x : A) (d : ℕ) (o : Outcome) → Home d o → (frames : ℕ) (r : Option (Found V))
+    pub called_astray : (es : List (Entry X)) → es ≡ map (block_entry pa) t.blocks → ((x : A) (v : V) → Dec (addr x v)) → (x : A) (d : ℕ) (o : Option ℕ) → Home d o → (frames : ℕ) (r : Option (Found V))
         → Searched Rows es (addr x) (IsNot o) frames (Ok r) → AstrayFound addr rests t x d frames (Ok (value_in r))
     called_astray es is tell x d o at frames r s = astray_found tell x d o at frames r (subst (λ l. Searched Rows l (addr x) (IsNot o) frames (Ok r)) is s)

@@ -2,24 +2,15 @@
 use Rattle.std.specs.Prelude.{◌≡◌, ℕ, ◌<◌, ◌≤◌, ◌⊎◌, List, length, Some, None, Ok, Err, Option, Result, ◌≢◌}
 use Rattle.std.specs.List.{slice_get}
 use Rattle.kinds.specs.Words.{Inside, Share}
-use Rattle.search.specs.declared.frames.Found.{Found}
 use Rattle.search.specs.declared.frames.TooShort.{TooShort}
-use Rattle.search.specs.declared.list.Match as Matched
 use Rattle.search.specs.declared.list.Match.{Match}
-use Rattle.search.specs.declared.list.Outcome as Outcomes
-use Rattle.search.specs.declared.list.Outcome.{Outcome}
 use Rattle.model.specs.Properties.{Of}
 use Rattle.model.specs.Tree.{Tree, Block}
 
--- the value that a search has found
-abbrev pub value_in : {V : Type 0} → Option (Found V) → Option V
-value_in None = None
-value_in (Some f) = Some f.value
-
 -- the domain that a match in the blocks means
-abbrev pub domain_in : Match → ℕ
-domain_in (Matched.TheVariants.First k d) = d
-domain_in Matched.TheVariants.Unmatched = 0
+abbrev pub domain_in : Option Match → ℕ
+domain_in (Some block) = block.outcome
+domain_in None = 0
 
 -- no block is given to domain 0, and no two share an address
 pub record OwnedApart {A V : Type 0} (addr : A → V → Type 0) (bs : List (Block A)) : Type 0 where
@@ -27,8 +18,8 @@ pub record OwnedApart {A V : Type 0} (addr : A → V → Type 0) (bs : List (Blo
   pub apart : (j k : ℕ) (b c : Block A) → slice_get bs j ≡ Some b → slice_get bs k ≡ Some c → Share (addr b.region) (addr c.region) → j ≡ k
 
 -- the outcome of the addresses of a domain, in the rows of the blocks
-abbrev pub Home : ℕ → Outcome → Type 0
-Home d o = ((d ≡ 0) × (o ≡ Outcomes.TheVariants.Unmatched)) ⊎ ((d ≢ 0) × (o ≡ Outcomes.TheVariants.Of d))
+abbrev pub Home : ℕ → Option ℕ → Type 0
+Home d o = ((d ≡ 0) × (o ≡ None)) ⊎ ((d ≢ 0) × (o ≡ Some d))
 
 module _ {A R V W : Type 0} (addr : A → V → Type 0) (rests : R → W → Type 0) where
   -- such an address, or nothing exactly where there is none; too short exactly where there are no more frames than blocks

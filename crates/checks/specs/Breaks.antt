@@ -1,7 +1,5 @@
 -- Packets of a property that a list decides against its sort.
 use Rattle.std.specs.Prelude.{◌≡◌, ℕ, ◌<◌, ◌≤◌, List, length, Some, None, Ok, Err, Option, Result}
-use Rattle.kinds.specs.declared.pair.Pair.{Pair}
-use Rattle.search.specs.declared.frames.Found.{Found}
 use Rattle.search.specs.declared.frames.TooShort.{TooShort}
 use Rattle.model.specs.Limits.{max_interfaces}
 use Rattle.model.specs.Packets.{Decided, InWhole, Unmatched, Complete}
@@ -16,14 +14,6 @@ use Rattle.model.specs.declared.rules.Rule.{Rule}
 abbrev pub decided_against : Decision → Decision
 decided_against Accept = Discard
 decided_against Discard = Accept
-
--- the packet of a pile of values, and that which a search has found
-abbrev pub packet_of : {V W : Type 0} → Pair ℕ (Pair V (Pair V W)) → Packet V W
-packet_of v = record { interface = v.left; source = v.right.left; destination = v.right.right.left; rest = v.right.right.right }
-
-abbrev pub packet_in : {V W : Type 0} → Option (Found (Pair ℕ (Pair V (Pair V W)))) → Option (Packet V W)
-packet_in None = None
-packet_in (Some f) = Some (packet_of f.value)
 
 module _ {A R V W : Type 0} (addr : A → V → Type 0) (rests : R → W → Type 0) where
   -- k is a packet of p on interface i, which the list decides against p's sort

@@ -3,16 +3,11 @@ use Rattle.std.specs.Prelude.{ℕ, Some, None, Option}
 use Rattle.kinds.specs.declared.pair.Pair.{Pair}
 use Rattle.kinds.specs.declared.set.SetRow.{SetRow}
 use Rattle.search.specs.declared.list.Entry.{Entry}
+use Rattle.model.specs.Packets.{decision_number}
 use Rattle.model.specs.Tree.{Block}
-use Rattle.model.specs.declared.rules.Decision.{Decision}
-use Rattle.model.specs.declared.rules.Decision.TheVariants.{Accept, Discard}
 use Rattle.model.specs.declared.rules.Property.{Property}
 use Rattle.model.specs.declared.rules.Rule.{Rule}
 use Rattle.checks.specs.declared.rows.PropertyRow.{PropertyRow}
-
-abbrev pub decision_number : Decision → ℕ
-decision_number Accept = 1
-decision_number Discard = 0
 
 abbrev pub rule_row : {A R X Y : Type 0} → (A → X) → (R → Y) → Rule A R → Pair SetRow (Pair X (Pair X Y))
 rule_row pa pr r = record {

@@ -1,13 +1,13 @@
 // Of which domain addresses are.
 ghost use Rattle.std.specs.Prelude.{◌≡◌, map, length};
-ghost use Rattle.checks.specs.Addresses.{OwnedApart, AstrayFound, Home, domain_in, value_in};
+ghost use Rattle.checks.specs.Addresses.{OwnedApart, AstrayFound, Home, domain_in};
 ghost use Rattle.checks.specs.Rows.{block_entry};
 ghost use Rattle.model.specs.Properties.{Of};
 ghost use Rattle.model.specs.Tree.{Tree};
 
 use crate::rows::BlockRow;
 use kinds::Kind;
-use search::{Found, Frame, Match, Outcome, TooShort, Wish, outcome_of, search};
+use search::{Frame, Match, TooShort, Wish, outcome_of, search};
 
 // The domain of an address: that of the block that holds it, or 0.
 pub fn domain_of<A: Kind, R: Kind>(blocks: &[BlockRow<A::Row>], address: A::Value) -> u32
@@ -17,54 +17,22 @@ pub fn domain_of<A: Kind, R: Kind>(blocks: &[BlockRow<A::Row>], address: A::Valu
 }
 
 // The domain that a match in the blocks means.
-fn domain_in(found: Match) -> u32
+fn domain_in(found: Option<Match>) -> u32
     ensures { result ≡ domain_in found }
 {
-    match found {
-        Match::First { outcome, .. } => outcome,
-        Match::Unmatched => 0,
-    }
-}
-
-// An address of the region that is not of the domain; nothing exactly when there is none.
-pub fn find_astray<A: Kind, R: Kind>(
-    blocks: &[BlockRow<A::Row>],
-    region: A,
-    domain: u32,
-    frames: &mut [Frame<A::Row>],
-) -> Result<Option<A::Value>, TooShort>
-    ensures { (t : Tree A R) → OwnedApart A.Kind.holds t.blocks → blocks.now ≡ map (block_entry A.Kind.plain) t.blocks → AstrayFound A.Kind.holds R.Kind.holds t region domain (length frames.old) result }
-{
-    match search(blocks, region, Wish::IsNot(home_of(domain)), frames) {
-        Err(short) => Err(short),
-        Ok(answer) => Ok(value_of(answer)),
-    }
+    found.map_or(0, |block| block.outcome)
 }
 
 // The outcome of the addresses of a domain: no block holds those of domain 0.
-fn home_of(domain: u32) -> Outcome
+fn home_of(domain: u32) -> Option<u32>
     ensures { Home domain result }
 {
-    if domain == 0 {
-        Outcome::Unmatched
-    } else {
-        Outcome::Of(domain)
-    }
+    if domain == 0 { None } else { Some(domain) }
 }
 
-// The value that was found, if one was.
-fn value_of<V: Copy>(answer: Option<Found<V>>) -> Option<V>
-    ensures { result ≡ value_in answer }
-{
-    match answer {
-        None => None,
-        Some(found) => Some(found.value),
-    }
-}
-
-// An address of the region that is not of the domain, whatever number names it; nothing exactly when
-// there is none. It asks of one address first, and searches on for the domain of that one.
-pub fn find_foreign<A: Kind, R: Kind>(
+// An address of the region that is not of the domain; nothing exactly when there is none. It asks of
+// one address first, since a number that no block can have is that of no domain.
+pub fn find_astray<A: Kind, R: Kind>(
     blocks: &[BlockRow<A::Row>],
     region: A,
     domain: usize,
@@ -80,8 +48,6 @@ pub fn find_foreign<A: Kind, R: Kind>(
     if home as usize != domain {
         return Ok(Some(address));
     }
-    match search(blocks, region, Wish::IsNot(home_of(home)), frames) {
-        Err(short) => Err(short),
-        Ok(answer) => Ok(value_of(answer)),
-    }
+    let astray = search(blocks, region, Wish::IsNot(home_of(home)), frames)?;
+    Ok(astray.map(|found| found.value))
 }

@@ -5,9 +5,8 @@ mod addresses;
 mod packets;
 mod rows;
 
-pub use addresses::{domain_of, find_astray, find_foreign};
+pub use addresses::{domain_of, find_astray};
 pub use packets::{find_break, find_unmatched};
 pub use rows::{
-    BlockRow, PacketRow, PropertyRow, RuleRow, block_row, number_of, property_row, read_property,
-    rule_row,
+    BlockRow, PacketRow, PropertyRow, RuleRow, block_row, property_row, read_property, rule_row,
 };

@@ -1,6 +1,6 @@
 // How rules, blocks and properties lie in tables.
 ghost use Rattle.std.specs.Prelude.{◌≡◌};
-ghost use Rattle.checks.specs.Rows.{decision_number, rule_entry, block_entry, property_row, property_of};
+ghost use Rattle.checks.specs.Rows.{rule_entry, block_entry, property_row, property_of};
 
 use kinds::{Kind, Pair, SetRow};
 use model::{Decision, Property, Rule};
@@ -26,16 +26,6 @@ pub struct PropertyRow<X, Y> {
     pub rest: Y,
 }
 
-// The outcome number of a decision.
-pub fn number_of(decision: Decision) -> u32
-    ensures { result ≡ decision_number decision }
-{
-    match decision {
-        Decision::Accept => 1,
-        Decision::Discard => 0,
-    }
-}
-
 pub fn rule_row<A: Kind, R: Kind>(rule: Rule<A, R>) -> RuleRow<A::Row, R::Row>
     ensures { result ≡ rule_entry A.Kind.plain R.Kind.plain rule }
 {
@@ -50,7 +40,7 @@ pub fn rule_row<A: Kind, R: Kind>(rule: Rule<A, R>) -> RuleRow<A::Row, R::Row>
                 },
             },
         },
-        outcome: number_of(rule.decision),
+        outcome: rule.decision.into(),
     }
 }
 

@@ -16,7 +16,6 @@ use Rattle.model.specs.declared.calls.Call.TheVariants.{Attach, Give}
 use Rattle.model.specs.declared.rules.Decision.TheVariants.{Discard}
 use Rattle.search.specs.List.{row_holds, Says}
 use Rattle.search.specs.declared.list.Entry.{Entry}
-use Rattle.search.specs.declared.list.Match.TheVariants.{First}
 
 -- the range from lo to hi
 abbrev pub range : (lo hi : ℕ) → T (nat_le lo hi) → Range
@@ -70,8 +69,8 @@ pub record Examples : Type 0 where
   -- masks 5 and 6 meet in 4
   pub masks : MeetIn set_holds (mask 5 tt tt) (mask 6 tt tt) (mask 4 tt tt)
   -- the list accepts 30 at its first rule and discards 31 at its second
-  pub accepted : Says range_rows two_rules 30 (First 0 1)
-  pub discarded : Says range_rows two_rules 31 (First 1 0)
+  pub accepted : Says range_rows two_rules 30 (Some (record { position = 0; outcome = 1 }))
+  pub discarded : Says range_rows two_rules 31 (Some (record { position = 1; outcome = 0 }))
   -- with 10.0.0.0/8 given to domain 1, 10.255.255.255 is of domain 1 and 11.0.0.0 of domain 0
   pub inside_block : Of prefix_holds range_holds one_block (ip 10 255 255 255) 1
   pub outside_block : Of prefix_holds range_holds one_block (ip 11 0 0 0) 0

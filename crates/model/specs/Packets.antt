@@ -1,6 +1,7 @@
 -- Which rule decides a packet.
 use Rattle.std.specs.Prelude.{◌≡◌, ℕ, ◌<◌, List}
 use Rattle.kinds.specs.Set.{set_holds}
+use Rattle.kinds.specs.declared.pair.Pair.{Pair}
 use Rattle.search.specs.First.{First, Nowhere}
 use Rattle.model.specs.Limits.{max_interfaces}
 use Rattle.model.specs.Tree.{Tree}
@@ -13,6 +14,18 @@ use Rattle.model.specs.declared.rules.Rule.{Rule}
 -- a header on the interface i
 abbrev pub entering : {V W : Type 0} → Header V W → ℕ → Packet V W
 entering h i = record { interface = i; source = h.source; destination = h.destination; rest = h.rest }
+
+-- a packet as the search has it, and back
+abbrev pub value_of : {V W : Type 0} → Packet V W → Pair ℕ (Pair V (Pair V W))
+value_of k = record { left = k.interface; right = record { left = k.source; right = record { left = k.destination; right = k.rest } } }
+
+abbrev pub packet_of : {V W : Type 0} → Pair ℕ (Pair V (Pair V W)) → Packet V W
+packet_of v = record { interface = v.left; source = v.right.left; destination = v.right.right.left; rest = v.right.right.right }
+
+-- a decision's outcome number
+abbrev pub decision_number : Decision → ℕ
+decision_number Accept = 1
+decision_number Discard = 0
 
 -- `addr` and `rests` say which addresses, and which rests, a region holds
 module _ {A R V W : Type 0} (addr : A → V → Type 0) (rests : R → W → Type 0) where

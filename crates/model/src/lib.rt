@@ -18,7 +18,7 @@ pub use limits::{
     MIN_ADDRESS_FRAMES, MIN_PACKET_FRAMES,
 };
 pub use path::{Hop, Uplink};
-pub use rules::{Decision, Header, Packet, Property, Rule};
+pub use rules::{Decision, Header, Packet, PacketValue, Property, Rule};
 pub use theorems::{
     addresses_have_one_domain, complete_lists_decide_once, edits_break_there_only,
     lawful_records_can_be_cut_short, lawful_records_grow, refusals_agree,
