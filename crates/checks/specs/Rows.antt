@@ -1,5 +1,5 @@
 -- How rules, blocks and properties lie in tables. `pa` and `pr` give the rows of addresses and of rests.
-use Rattle.std.specs.Prelude.{ℕ, Some, None, Option}
+use Rattle.std.specs.Prelude.{Some, None, Option}
 use Rattle.kinds.specs.declared.pair.Pair.{Pair}
 use Rattle.kinds.specs.declared.set.SetRow.{SetRow}
 use Rattle.search.specs.declared.list.Entry.{Entry}

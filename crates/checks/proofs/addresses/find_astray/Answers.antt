@@ -1,8 +1,8 @@
-use Rattle.std.proofs.Common.{length, ap, ◌∙◌, subst, arith}
+use Rattle.std.proofs.Common.{◌≡◌, length, ap, ◌∙◌, subst, arith, rules}
 use Rattle.std.proofs.lemmas.List.{length-map}
 use Rattle.model.proofs.Meanings.{of_one}
 use Rattle.checks.specs.Addresses.{Home}
-use Rattle.checks.proofs.Owners.{called_astray}
+use Rattle.checks.proofs.Owners.{called_astray, value_in}
 use Rattle.checks.proofs.addresses.find_astray.Goals as goal
 
 pub returns-then-frames-blocks : goal.returns-then-frames-blocks
@@ -15,12 +15,9 @@ returns-then-home-domain g c t ok is = (
   λ of. c.if-home-domain.true (of_one g.A.Kind.holds g.R.Kind.holds t ok.apart c.pick-address.result _ _ (c.domain_of-home.ensures t is) of),
 )
 
-pub returns-in-Err : goal.returns-in-Err
-returns-in-Err g c t ok is = omega (arith, ap length is ∙ length-map t.blocks _, c.in-Err.ensures)
-
-pub returns-in-Ok : goal.returns-in-Ok
-returns-in-Ok g c t ok is =
+pub returns : goal.returns
+returns g c t ok is =
     let a = g.A.Kind in
     let home = subst (λ d. Home d c.home_of.result) c.if-home-domain.false c.home_of.ensures in
-    rw c.value_of.ensures
-    (called_astray a.holds g.R.Kind.holds a.plain a.region g.met.A.Kind.rereads t ok _ is g.met.A.Kind.decided c.args.region c.args.domain c.home_of.result home _ c.in-Ok.answer c.in-Ok.ensures)
+    let found : c.map.result ≡ value_in c.in_ok-astray.astray = search rules in
+    rw found (called_astray a.holds g.R.Kind.holds a.plain a.region g.met.A.Kind.rereads t ok _ is g.met.A.Kind.decided c.args.region c.args.domain c.home_of.result home _ c.in_ok-astray.astray c.in_ok-astray.ensures)

@@ -1,8 +1,8 @@
-use Rattle.std.proofs.Common.{length, refl, ap, ◌∙◌, arith}
+use Rattle.std.proofs.Common.{◌≡◌, length, refl, ap, ◌∙◌, arith, rules}
 use Rattle.std.proofs.lemmas.List.{length-map}
 use Rattle.kinds.specs.Masks.{low_bit}
-use Rattle.checks.specs.Rows.{decision_number}
-use Rattle.checks.proofs.Broken.{called_found}
+use Rattle.model.specs.Packets.{decision_number}
+use Rattle.checks.proofs.Broken.{called_found, packet_in}
 use Rattle.checks.proofs.packets.find_break.Goals as goal
 
 pub returns-then-frames-rules : goal.returns-then-frames-rules
@@ -11,15 +11,13 @@ returns-then-frames-rules g c rs is = omega (arith, ap length is ∙ length-map 
 pub returns-else-frames-rules : goal.returns-else-frames-rules
 returns-else-frames-rules g c rs is = (omega (arith, ap length is ∙ length-map rs _), λ k b. omega (arith, c.in_default.ensures))
 
-pub returns-in-Err : goal.returns-in-Err
-returns-in-Err g c rs is = omega (arith, ap length is ∙ length-map rs _, c.in-Err.ensures)
-
-pub returns-in-Ok : goal.returns-in-Ok
-returns-in-Ok g c rs is =
+pub returns : goal.returns
+returns g c rs is =
     let a = g.A.Kind in
     let r = g.R.Kind in
     let one = c.in-Some.interface in
     let only = c.in-Some.ensures in
-    rw c.packet_of.ensures
+    let found : c.map.result ≡ packet_in c.in_ok-breaking.breaking = search rules in
+    rw found
     (called_found a.holds r.holds a.plain r.plain a.region r.region g.met.A.Kind.rereads g.met.R.Kind.rereads rs c.args.property c.args.entered one (low_bit one.mask c.args.entered one.few (only.1 _ refl)) only _ _ _ is
-    (c.number_of.ensures ∙ ap decision_number c.against.ensures) c.packet_region-target.ensures _ _ c.in-Ok.ensures)
+    (c.into.ensures ∙ ap decision_number c.against.ensures) c.packet_region-target.ensures _ _ c.in_ok-breaking.ensures)
