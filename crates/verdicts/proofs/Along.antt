@@ -1,13 +1,31 @@
--- Going along a list.
-use Rattle.std.proofs.Common.{◌≡◌, ℕ, ◌+◌, List, None, sym, ap, ◌∙◌, arith}
-use native.Mathlib.Decide.{ℕ_discrete}
-use Rattle.std.specs.List.{slice_get}
-use Rattle.kinds.specs.Makes.{none_some}
-use Rattle.search.specs.First.{Before}
+-- The first of a list that fits, as `position` and `find` tell it.
+use Rattle.std.proofs.Common.{◌≡◌, ℕ, ◌<◌, List, length, Some, None, Option, Bor, sym, subst, arith, MatchOption}
+use Rattle.std.specs.List.{AllWithin, HoldsAt}
+use Rattle.std.proofs.lemmas.Option.{get_or_from_slice_get}
+use Rattle.search.specs.First.{First, Nowhere, Before}
+use Rattle.std.specs.Option.{option_copied}
+use Rattle.search.proofs.Positions.{nth_get_or, nth_within}
+use Rattle.model.proofs.Subtrees.{nth_some}
 
--- past a position at which nothing stands
-pub before_nothing : {X : Type 0} (fits : X → Type 0) (xs : List X) (n : ℕ) → slice_get xs n ≡ None → Before fits xs n → Before fits xs (n + 1)
-before_nothing fits xs n none before k y less at fit = elim (ℕ_discrete k n) [
-  | yes same ↦ none_some (sym none ∙ ap (slice_get xs) (sym same) ∙ at)
-  | no other ↦ before k y (omega arith) at fit
-]
+module _ {X : Type 0} (fits : X → Type 0) (xs : List X) where
+  abbrev pub Not : X → Type 0
+  Not x = fits x → ⊥
+
+  pub before_within : (n : ℕ) → AllWithin Not xs 0 n → Before fits xs n
+  before_within n all k y less at = subst Not (get_or_from_slice_get xs k y y at) (all k y (omega arith) less)
+
+  pub nowhere_within : AllWithin Not xs 0 (length xs) → Nowhere fits xs
+  nowhere_within all k y at = before_within (length xs) all k y (nth_within xs k y at) at
+
+  pub first_within : (n : ℕ) (x : X) → (n < length xs) × HoldsAt (λ y. y ≡ x) xs n × AllWithin Not xs 0 n → fits x → First fits xs n x
+  first_within n x (less, is, all) fit = record { here = nth_get_or xs n x less (sym (is x)); fit = fit; before = before_within n all }
+
+  -- the place that `position` tells, or none
+  pub at_position : (r : Option ℕ) → MatchOption r (AllWithin Not xs 0 (length xs)) (λ i. (i < length xs) × HoldsAt fits xs i × AllWithin Not xs 0 i) → MatchOption r (Nowhere fits xs) (λ k. (x : X) × First fits xs k x)
+  at_position None all = nowhere_within all
+  at_position (Some k) (less, here, all) = let (x, at) = nth_some xs k less in (x, record { here = at; fit = subst fits (get_or_from_slice_get xs k x x at) (here x); before = before_within k all })
+
+  -- the thing that `find` tells, or none
+  pub at_find : (r : Option (Bor X)) → MatchOption r (AllWithin Not xs 0 (length xs)) (λ x. fits x.now × (i : ℕ) × (i < length xs) × HoldsAt (λ y. y ≡ x.now) xs i × AllWithin Not xs 0 i) → MatchOption (option_copied r) (Nowhere fits xs) (λ x. (k : ℕ) × First fits xs k x)
+  at_find None all = nowhere_within all
+  at_find (Some x) (fit, k, less, is, all) = (k, first_within k x.now (less, is, all) fit)

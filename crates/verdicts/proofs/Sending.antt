@@ -1,16 +1,15 @@
 -- What becomes of packets in the lists of a route.
-use Rattle.std.proofs.Common.{◌≡◌, ℕ, ◌+◌, List, map, Some, Option, sym, refl, ap, ◌∙◌, subst, subst₂, inl, inr, arith}
+use Rattle.std.proofs.Common.{◌≡◌, ℕ, ◌+◌, List, map, Some, None, Option, sym, refl, ap, ◌∙◌, subst, subst₂, inl, inr, arith}
 use Rattle.std.specs.List.{slice_get}
 use Rattle.kinds.specs.declared.pair.Pair.{Pair}
 use Rattle.kinds.specs.declared.set.SetRow.{SetRow}
 use Rattle.search.specs.First.{Before}
 use Rattle.search.specs.List.{Says}
 use Rattle.search.specs.declared.list.Entry.{Entry}
-use Rattle.search.specs.declared.list.Match as Matched
 use Rattle.search.specs.declared.list.Match.{Match}
 use Rattle.search.proofs.Positions.{before_more}
-use Rattle.search.proofs.Walks.{first_one}
-use Rattle.model.specs.Packets.{Decided, Discarded, entering}
+use Rattle.search.proofs.Walks.{first_one, matched}
+use Rattle.model.specs.Packets.{Decided, Discarded, decision_number, entering, value_of}
 use Rattle.model.specs.Properties.{Of}
 use Rattle.model.specs.Record.{Stops, Sent}
 use Rattle.model.specs.Shape.{Domain, Route}
@@ -20,33 +19,35 @@ use Rattle.model.specs.declared.rules.Decision.TheVariants.{Discard}
 use Rattle.model.specs.declared.rules.Header.{Header}
 use Rattle.model.specs.declared.rules.Packet.{Packet}
 use Rattle.model.specs.declared.rules.Rule.{Rule}
-use Rattle.checks.specs.Rows.{decision_number, rule_entry}
-use Rattle.checks.proofs.Lists.{Rows, value_of, says_decided, decided_says, says_unmatched}
-use Rattle.verdicts.specs.Passage.{passage_answer, StoppedOn, PassageOn}
-use Rattle.verdicts.specs.declared.passage.Passage.{Passage}
-use Rattle.verdicts.specs.declared.passage.Passage.TheVariants.{Passed, Stopped}
+use Rattle.checks.specs.Rows.{rule_entry}
+use Rattle.checks.proofs.Lists.{Rows, says_decided, decided_says, says_unmatched}
+use Rattle.verdicts.specs.Passage.{passage_answer, StoppedOn, StopFound}
+use Rattle.verdicts.specs.declared.passage.Stop.{Stop}
 
 -- the rows `es` of a list say whether it discards a packet
 module _ {A R V W X Y : Type 0} (addr : A → V → Type 0) (rests : R → W → Type 0) (pa : A → X) (pr : R → Y) (ra : X → Option A) (rr : Y → Option R)
     (reads-a : (x : A) → ra (pa x) ≡ Some x) (reads-r : (x : R) → rr (pr x) ≡ Some x) (rs : List (Rule A R)) (k : Packet V W)
-    (es : List (Entry (Pair SetRow (Pair X (Pair X Y))))) (is : es ≡ map (rule_entry pa pr) rs) where
-  abbrev Tells : List (Entry (Pair SetRow (Pair X (Pair X Y)))) → Match → Type 0
-  Tells l m = Says (Rows addr rests pa pr ra rr reads-a reads-r) l (value_of k) m
+    (es : List (Entry (Pair SetRow (Pair X (Pair X Y))))) (is : es ≡ map (rule_entry pa pr) rs) (v : Pair ℕ (Pair V (Pair V W))) (piled : v ≡ value_of k) where
+  abbrev Tells : List (Entry (Pair SetRow (Pair X (Pair X Y)))) → Pair ℕ (Pair V (Pair V W)) → Option Match → Type 0
+  Tells l x m = Says (Rows addr rests pa pr ra rr reads-a reads-r) l x m
 
-  pub discards : (n o : ℕ) → Tells es (Matched.TheVariants.First n o) → o ≡ decision_number Discard → Decided addr rests rs k n Discard
-  discards n o told same = says_decided addr rests pa pr ra rr reads-a reads-r rs k n Discard (subst₂ (λ l x. Tells l (Matched.TheVariants.First n x)) is same told)
+  told_of : (m : Option Match) → Tells es v m → Tells (map (rule_entry pa pr) rs) (value_of k) m
+  told_of m told = subst₂ (λ l x. Tells l x m) is piled told
+
+  pub discards : (m : Match) → Tells es v (Some m) → m.outcome ≡ decision_number Discard → Decided addr rests rs k m.position Discard
+  discards m told same = says_decided addr rests pa pr ra rr reads-a reads-r rs k m.position Discard (subst (λ o. Tells (map (rule_entry pa pr) rs) (value_of k) (matched m.position o)) same (told_of (Some m) told))
 
   -- the first row that holds the packet has another outcome
-  pub discards_not : (n o : ℕ) → Tells es (Matched.TheVariants.First n o) → (o ≡ decision_number Discard → ⊥) → Discarded addr rests rs k → ⊥
-  discards_not n o told other (m, decided) =
-      let (x, first, is-o) = subst (λ l. Tells l (Matched.TheVariants.First n o)) is told in
-      let (y, also, is-discard) = decided_says addr rests pa pr ra rr reads-a reads-r rs k m Discard decided in
-      let same = first_one _ (map (rule_entry pa pr) rs) n m x y first also in
+  pub discards_not : (m : Match) → Tells es v (Some m) → (m.outcome ≡ decision_number Discard → ⊥) → Discarded addr rests rs k → ⊥
+  discards_not m told other (n, decided) =
+      let (x, first, is-o) = told_of (Some m) told in
+      let (y, also, is-discard) = decided_says addr rests pa pr ra rr reads-a reads-r rs k n Discard decided in
+      let same = first_one _ (map (rule_entry pa pr) rs) m.position n x y first also in
       other (sym is-o ∙ ap (λ (e : Entry (Pair SetRow (Pair X (Pair X Y)))). e.outcome) same.1 ∙ is-discard)
 
-  pub unmatched_not : Tells es Matched.TheVariants.Unmatched → Discarded addr rests rs k → ⊥
+  pub unmatched_not : Tells es v None → Discarded addr rests rs k → ⊥
   unmatched_not told (m, (r, first, is-discard)) =
-      says_unmatched addr rests pa pr ra rr reads-a reads-r rs k (subst (λ l. Tells l Matched.TheVariants.Unmatched) is told) m r first.here first.fit
+      says_unmatched addr rests pa pr ra rr reads-a reads-r rs k (told_of None told) m r first.here first.fit
 
 module _ {A R V W : Type 0} (addr : A → V → Type 0) (rests : R → W → Type 0) (t : Tree A R) where
   -- the domain of an address is one that there is, where those of the blocks are
@@ -64,6 +65,6 @@ module _ {A R V W : Type 0} (addr : A → V → Type 0) (rests : R → W → Typ
       past_stop not = before_more (Stops addr rests t h) hops n p here before not
 
     -- what becomes of the header along its way
-    pub sent_along : (u v : ℕ) → Of addr rests t h.source u → Of addr rests t h.destination v → (hops : List Hop) → Route t.shape u v hops → (r : Passage) → PassageOn addr rests t h hops r → Sent addr rests t h (passage_answer r)
-    sent_along u v from to hops route Passed none = (hops, record { u = u; v = v; from = from; to = to; route = route }, none)
-    sent_along u v from to hops route (Stopped f k) s = (hops, s.place, s.hop, record { u = u; v = v; from = from; to = to; route = route }, s.first, s.named, s.rule)
+    pub sent_along : (u v : ℕ) → Of addr rests t h.source u → Of addr rests t h.destination v → (hops : List Hop) → Route t.shape u v hops → (r : Option Stop) → StopFound addr rests t h hops r → Sent addr rests t h (passage_answer r)
+    sent_along u v from to hops route None none = (hops, record { u = u; v = v; from = from; to = to; route = route }, none)
+    sent_along u v from to hops route (Some stop) s = (hops, s.place, s.hop, record { u = u; v = v; from = from; to = to; route = route }, s.first, s.named, s.rule)

@@ -15,8 +15,8 @@ abbrev pub Through : ℕ → Hop → Type 0
 Through f h = h.firewall ≡ f
 
 -- the first hop through firewall f, or nothing exactly where none is
-abbrev pub HopFound : List Hop → ℕ → Option Hop → Type 0
-HopFound hs f r = MatchOption r (Nowhere (Through f) hs) (λ h. (k : ℕ) × First (Through f) hs k h)
+abbrev pub ThroughFound : List Hop → ℕ → Option Hop → Type 0
+ThroughFound hs f r = MatchOption r (Nowhere (Through f) hs) (λ h. (k : ℕ) × First (Through f) hs k h)
 
 module _ {A R V W : Type 0} (addr : A → V → Type 0) (rests : R → W → Type 0) where
   -- a packet that breaks the property first at f, once f has the list rs, or nothing exactly where none breaks it then

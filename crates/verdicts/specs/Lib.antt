@@ -3,3 +3,4 @@ pub mod Misplaced
 pub mod Edited
 pub mod Asked
 pub mod Passage
+pub mod Network

@@ -1,5 +1,5 @@
 -- What becomes of a packet on its way.
-use Rattle.std.specs.Prelude.{◌≡◌, ℕ, List, Option, MatchOption}
+use Rattle.std.specs.Prelude.{◌≡◌, ℕ, List, Some, None, Option, MatchOption}
 use Rattle.search.specs.First.{First, Nowhere}
 use Rattle.model.specs.Packets.{Decided, Discarded, entering}
 use Rattle.model.specs.Record.{Stops}
@@ -11,13 +11,12 @@ use Rattle.model.specs.declared.rules.Decision.TheVariants.{Discard}
 use Rattle.model.specs.declared.rules.Header.{Header}
 use Rattle.model.specs.declared.rules.Packet.{Packet}
 use Rattle.model.specs.declared.rules.Rule.{Rule}
-use Rattle.verdicts.specs.declared.passage.Passage.{Passage}
-use Rattle.verdicts.specs.declared.passage.Passage.TheVariants.{Passed, Stopped}
+use Rattle.verdicts.specs.declared.passage.Stop.{Stop}
 
--- the answer that a passage is
-abbrev pub passage_answer : {V W : Type 0} → Passage → Answer V W
-passage_answer Passed = answer.TheVariants.Passed
-passage_answer (Stopped f k) = answer.TheVariants.Stopped f k
+-- the answer to a packet that is sent, by its first stop
+abbrev pub passage_answer : {V W : Type 0} → Option Stop → Answer V W
+passage_answer None = answer.TheVariants.Passed
+passage_answer (Some s) = answer.TheVariants.Stopped s.firewall s.position
 
 module _ {A R V W : Type 0} (addr : A → V → Type 0) (rests : R → W → Type 0) where
   -- the position of the rule that discards the packet, or nothing exactly where the list does not discard it
@@ -32,7 +31,7 @@ module _ {A R V W : Type 0} (addr : A → V → Type 0) (rests : R → W → Typ
     pub named : hop.firewall ≡ f
     pub rule : Decided addr rests (rules_of t f) (entering h hop.entered) k Discard
 
-  -- what becomes of the header along some hops
-  abbrev pub PassageOn : Tree A R → Header V W → List Hop → Passage → Type 0
-  PassageOn t h hops Passed = Nowhere (Stops addr rests t h) hops
-  PassageOn t h hops (Stopped f k) = StoppedOn t h hops f k
+  -- the first stop of the header along some hops, or nothing exactly where none discards it
+  abbrev pub StopFound : Tree A R → Header V W → List Hop → Option Stop → Type 0
+  StopFound t h hops None = Nowhere (Stops addr rests t h) hops
+  StopFound t h hops (Some s) = StoppedOn t h hops s.firewall s.position

@@ -6,15 +6,14 @@ ghost use Rattle.model.specs.Properties.{Kept};
 ghost use Rattle.model.specs.Tree.{Tree};
 ghost use Rattle.model.specs.declared.rules.Property.{Property as PropertyOf};
 ghost use Rattle.model.specs.declared.rules.Rule.{Rule as RuleOf};
-ghost use Rattle.tree.specs.Path.{hops_of};
 ghost use Rattle.tree.specs.Table.{shape_of};
-ghost use Rattle.verdicts.specs.Edited.{Through, HopFound, BreakAtFound, EditFound};
+ghost use Rattle.verdicts.specs.Edited.{Through, ThroughFound, BreakAtFound, EditFound};
 
 use checks::{PacketRow, PropertyRow, RuleRow, find_break, read_property};
 use kinds::Kind;
 use model::{Hop, Packet, Property};
 use search::{Frame, TooShort};
-use tree::{Route, TreeTable};
+use tree::TreeTable;
 
 // A property, by its number, and a packet that breaks it.
 #[derive(Clone, Copy)]
@@ -61,24 +60,19 @@ fn break_at<A: Kind, R: Kind>(
     let Some(route) = tree.route(property.from, property.to) else {
         return Ok(None);
     };
-    match hop_at(&route, firewall) {
+    match hop_at(route.hops(), firewall) {
         Some(hop) => find_break(list, property, hop.entered, frames),
         None => Ok(None),
     }
 }
 
-// The first hop of the route through the firewall, if there is one.
-fn hop_at(route: &Route, firewall: usize) -> Option<Hop>
-    ensures { HopFound (hops_of route.now) firewall result }
+// The first of the hops through the firewall, if there is one.
+fn hop_at(hops: &[Hop], firewall: usize) -> Option<Hop>
+    ensures { ThroughFound hops.now firewall result }
 {
-    for place in 0..route.len() {
-        if let Some(hop) = route.hop(place) {
-            if goes_through(hop, firewall) {
-                return Some(hop);
-            }
-        }
-    }
-    None
+    hops.iter()
+        .find(|hop| goes_through(**hop, firewall))
+        .copied()
 }
 
 fn goes_through(hop: Hop, firewall: usize) -> bool

@@ -3,12 +3,14 @@
 
 mod edited;
 mod misplaced;
+mod network;
 mod overlap;
 mod passage;
 mod route;
 
 pub use edited::{Broken, first_broken};
 pub use misplaced::{Astray, first_misplaced, source_astray};
+pub use network::Network;
 pub use overlap::first_overlap;
-pub use passage::{Passage, passage_of};
-pub use route::{Break, first_break};
+pub use passage::Stop;
+pub use route::Break;

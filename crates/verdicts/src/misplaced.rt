@@ -5,7 +5,7 @@ ghost use Rattle.checks.specs.Rows.{block_entry, property_row};
 ghost use Rattle.model.specs.Tree.{Tree};
 ghost use Rattle.verdicts.specs.Misplaced.{SourceFound, AstrayIn, MisplacedFound};
 
-use checks::{BlockRow, PropertyRow, find_foreign, read_property};
+use checks::{BlockRow, PropertyRow, find_astray, read_property};
 use kinds::Kind;
 use model::{Decision, Property};
 use search::{Frame, TooShort};
@@ -50,7 +50,7 @@ fn astray_in<A: Kind, R: Kind>(
     let in_source = source_astray(blocks, property, frames)?;
     match in_source {
         Some(address) => Ok(Some(address)),
-        None => find_foreign::<A, R>(blocks, property.destination, property.to, frames),
+        None => find_astray::<A, R>(blocks, property.destination, property.to, frames),
     }
 }
 
@@ -64,7 +64,7 @@ pub fn source_astray<A: Kind, R: Kind>(
     ensures { (t : Tree A R) → OwnedApart A.Kind.holds t.blocks → blocks.now ≡ map (block_entry A.Kind.plain) t.blocks → SourceFound A.Kind.holds R.Kind.holds t property (length frames.old) result }
 {
     match property.sort {
-        Decision::Accept => find_foreign::<A, R>(blocks, property.source, property.from, frames),
+        Decision::Accept => find_astray::<A, R>(blocks, property.source, property.from, frames),
         Decision::Discard => Ok(None),
     }
 }

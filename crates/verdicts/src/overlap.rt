@@ -12,20 +12,14 @@ use search::share_a_value;
 pub fn first_overlap<A: Kind>(blocks: &[BlockRow<A::Row>], region: A) -> Option<usize>
     ensures { (bs : List (Block A)) → blocks.now ≡ map (block_entry A.Kind.plain) bs → OverlapFound A.Kind.holds bs region result }
 {
-    for (index, block) in blocks.iter().enumerate() {
-        if row_shares(block.row, region) {
-            return Some(index);
-        }
-    }
-    None
+    blocks
+        .iter()
+        .position(|block| row_shares(block.row, region))
 }
 
 // Whether the region of a row shares a value with the other.
 fn row_shares<A: Kind>(row: A::Row, region: A) -> bool
     ensures { Decides result (RowShares A.Kind.holds A.Kind.region region row) }
 {
-    match A::read(row) {
-        Some(other) => share_a_value(other, region),
-        None => false,
-    }
+    A::read(row).is_some_and(|other| share_a_value(other, region))
 }

@@ -6,84 +6,63 @@ ghost use Rattle.model.specs.Record.{Sent};
 ghost use Rattle.model.specs.Shape.{Domain};
 ghost use Rattle.model.specs.Tree.{Tree, Block, rules_of};
 ghost use Rattle.model.specs.declared.rules.Rule.{Rule as RuleOf};
-ghost use Rattle.tree.specs.Path.{hops_of};
-ghost use Rattle.tree.specs.Table.{shape_of};
-ghost use Rattle.lists.specs.Layout.{Laid};
-ghost use Rattle.lists.specs.Lengths.{lengths_of};
 ghost use Rattle.checks.specs.Rows.{rule_entry, block_entry};
-ghost use Rattle.verdicts.specs.Passage.{passage_answer, DiscardFound, PassageOn};
+ghost use Rattle.verdicts.specs.Network.{Draws};
+ghost use Rattle.verdicts.specs.Passage.{passage_answer, DiscardFound, StopFound};
 
-use checks::{BlockRow, RuleRow, domain_of, number_of};
-use kinds::{Kind, PacketRegion, Pair};
-use lists::ListTable;
+use crate::network::Network;
+use checks::{BlockRow, RuleRow, domain_of};
+use kinds::{Kind, PacketRegion};
 use model::{Decision, Header, Hop, Packet};
-use search::{Match, outcome_of};
-use tree::{Route, TreeTable};
+use search::outcome_of;
 
-// A packet passes every firewall on its way, or a rule of one stops it.
+// The rule that stops a packet: its firewall, and its position in the list there.
 #[derive(Clone, Copy)]
-pub enum Passage {
-    Passed,
-    Stopped { firewall: usize, position: usize },
+pub struct Stop {
+    pub firewall: usize,
+    pub position: usize,
 }
 
-// What becomes of a packet on the way from the domain of its source to that of its destination.
-pub fn passage_of<A: Kind, R: Kind>(
-    tree: &TreeTable,
-    lists: &ListTable,
-    rules: &[RuleRow<A::Row, R::Row>],
-    blocks: &[BlockRow<A::Row>],
-    header: Header<A::Value, R::Value>,
-) -> Passage
-    ensures { (t : Tree A R) → shape_of tree.now ≡ t.shape → Laid (rule_entry A.Kind.plain R.Kind.plain) (lengths_of lists.now) rules.now t.lists → blocks.now ≡ map (block_entry A.Kind.plain) t.blocks → ((k : ℕ) (b : Block A) → slice_get t.blocks k ≡ Some b → Domain t.shape b.domain) → Sent A.Kind.holds R.Kind.holds t header (passage_answer result) }
-{
-    let from = domain_of::<A, R>(blocks, header.source) as usize;
-    let to = domain_of::<A, R>(blocks, header.destination) as usize;
-    match tree.route(from, to) {
-        Some(route) => passage_on::<A, R>(&route, lists, rules, header),
-        None => Passage::Passed,
-    }
-}
-
-// What becomes of a packet along a route.
-fn passage_on<A: Kind, R: Kind>(
-    route: &Route,
-    lists: &ListTable,
-    rules: &[RuleRow<A::Row, R::Row>],
-    header: Header<A::Value, R::Value>,
-) -> Passage
-    ensures { (t : Tree A R) → Laid (rule_entry A.Kind.plain R.Kind.plain) (lengths_of lists.now) rules.now t.lists → PassageOn A.Kind.holds R.Kind.holds t header (hops_of route.now) result }
-{
-    for index in 0..route.len() {
-        if let Some(hop) = route.hop(index) {
-            if let Some(position) = stop_in::<A, R>(lists, rules, header, hop) {
-                return Passage::Stopped {
-                    firewall: hop.firewall,
-                    position,
-                };
-            }
+impl<A: Kind, R: Kind> Network<'_, A, R> {
+    // The first stop of a packet on the way from the domain of its source to that of its
+    // destination; nothing exactly when it passes every firewall.
+    pub fn first_stop(
+        &self,
+        blocks: &[BlockRow<A::Row>],
+        header: Header<A::Value, R::Value>,
+    ) -> Option<Stop>
+        ensures { (t : Tree A R) → Draws A.Kind.plain R.Kind.plain self.now t → blocks.now ≡ map (block_entry A.Kind.plain) t.blocks → ((k : ℕ) (b : Block A) → slice_get t.blocks k ≡ Some b → Domain t.shape b.domain) → Sent A.Kind.holds R.Kind.holds t header (passage_answer result) }
+    {
+        let from = domain_of::<A, R>(blocks, header.source) as usize;
+        let to = domain_of::<A, R>(blocks, header.destination) as usize;
+        match self.tree.route(from, to) {
+            Some(route) => self.stop_on(route.hops(), header),
+            None => None,
         }
     }
-    Passage::Passed
-}
 
-// The position of the rule that discards a packet in one hop, if one does.
-fn stop_in<A: Kind, R: Kind>(
-    lists: &ListTable,
-    rules: &[RuleRow<A::Row, R::Row>],
-    header: Header<A::Value, R::Value>,
-    hop: Hop,
-) -> Option<usize>
-    ensures { (t : Tree A R) → Laid (rule_entry A.Kind.plain R.Kind.plain) (lengths_of lists.now) rules.now t.lists → DiscardFound A.Kind.holds R.Kind.holds (rules_of t hop.firewall) (entering header hop.entered) result }
-{
-    let list = lists.rows_of(rules, hop.firewall);
-    let packet = Packet {
-        interface: hop.entered,
-        source: header.source,
-        destination: header.destination,
-        rest: header.rest,
-    };
-    discarded_at::<A, R>(list, packet)
+    // The first stop of a packet in these hops.
+    fn stop_on(&self, hops: &[Hop], header: Header<A::Value, R::Value>) -> Option<Stop>
+        ensures { (t : Tree A R) → Draws A.Kind.plain R.Kind.plain self.now t → StopFound A.Kind.holds R.Kind.holds t header hops.now result }
+    {
+        for hop in hops {
+            if let Some(position) = self.stop_in(*hop, header) {
+                return Some(Stop {
+                    firewall: hop.firewall,
+                    position,
+                });
+            }
+        }
+        None
+    }
+
+    // The position of the rule that discards a packet in one hop, if one does.
+    fn stop_in(&self, hop: Hop, header: Header<A::Value, R::Value>) -> Option<usize>
+        ensures { (t : Tree A R) → Draws A.Kind.plain R.Kind.plain self.now t → DiscardFound A.Kind.holds R.Kind.holds (rules_of t hop.firewall) (entering header hop.entered) result }
+    {
+        let list = self.lists.rows_of(self.rules, hop.firewall);
+        discarded_at::<A, R>(list, header.entering(hop.entered))
+    }
 }
 
 // The position of the rule that discards a packet; nothing exactly when the list does not.
@@ -93,24 +72,10 @@ fn discarded_at<A: Kind, R: Kind>(
 ) -> Option<usize>
     ensures { (rs : List (RuleOf A R)) → list.now ≡ map (rule_entry A.Kind.plain R.Kind.plain) rs → DiscardFound A.Kind.holds R.Kind.holds rs packet result }
 {
-    let value = Pair {
-        left: packet.interface,
-        right: Pair {
-            left: packet.source,
-            right: Pair {
-                left: packet.destination,
-                right: packet.rest,
-            },
-        },
-    };
-    match outcome_of::<PacketRegion<A, R>>(list, value) {
-        Match::First { position, outcome } => {
-            if outcome == number_of(Decision::Discard) {
-                Some(position)
-            } else {
-                None
-            }
-        }
-        Match::Unmatched => None,
+    let decided = outcome_of::<PacketRegion<A, R>>(list, packet.into())?;
+    if decided.outcome == u32::from(Decision::Discard) {
+        Some(decided.position)
+    } else {
+        None
     }
 }

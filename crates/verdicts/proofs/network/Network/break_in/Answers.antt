@@ -1,0 +1,11 @@
+use Rattle.std.proofs.Common.{length, ◌∙◌}
+use Rattle.model.specs.Tree.{rules_of}
+use Rattle.lists.proofs.Laid.{laid_list}
+use Rattle.verdicts.proofs.Breaking.{hop_found}
+use Rattle.verdicts.proofs.network.Network.break_in.Goals as goal
+
+pub returns : goal.returns
+returns g c t drawn =
+    let f = c.args.hop.firewall in
+    hop_found g.A.Kind.holds g.R.Kind.holds t c.args.property c.args.self.now.lists.now c.args.self.now.rules.now drawn.lists c.args.hop (length c.args.frames.now) c.find_break.result
+    (c.find_break.ensures (rules_of t f) (c.rows_of-list.ensures ∙ laid_list drawn.lists f))
