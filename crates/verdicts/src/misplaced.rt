@@ -56,6 +56,7 @@ fn astray_in<A: Kind, R: Kind>(
 
 // An address of the source that is not of its domain; nothing exactly when there is none. The source
 // of discard is free.
+#[tactic(auto, using(crate::proofs::Strays::accept_source, crate::proofs::Strays::discard_source))]
 pub fn source_astray<A: Kind, R: Kind>(
     blocks: &[BlockRow<A::Row>],
     property: Property<A, R>,
