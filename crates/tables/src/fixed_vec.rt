@@ -2,7 +2,7 @@
 ghost use Rattle.std.specs.Prelude.{◌≡◌, ◌≤◌, length, take};
 
 use crate::full::Full;
-use crate::used_rows;
+use crate::part::used_rows;
 use std::alloc::AllocError;
 
 // Up to `N` things in place, without a heap: the first `count` items are in use, what lies past them
