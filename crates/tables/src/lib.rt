@@ -5,6 +5,12 @@ ghost use Rattle.std.specs.Prelude.{◌≡◌, ◌+◌, ◌-◌, ◌<◌, ◌≤
 ghost use Rattle.std.specs.List.{slice_get, insert, remove};
 ghost use Rattle.tables.specs.Rows.{row_in, row_out};
 
+mod fixed_vec;
+mod full;
+
+pub use fixed_vec::FixedVec;
+pub use full::Full;
+
 // The used rows; all of them where fewer are lent.
 pub fn used_rows<T: Copy>(rows: &[T], used: usize) -> &[T]
     ensures { result.now ≡ take used rows.now }
