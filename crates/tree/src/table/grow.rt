@@ -53,10 +53,7 @@ impl TreeTable {
         if firewall >= self.firewall_count {
             return Err(TreeRefusal::NoSuch);
         }
-        if interface >= MAX_INTERFACES {
-            return Err(TreeRefusal::BadInterface);
-        }
-        if let Some(_) = self.user(firewall, interface) {
+        if interface >= MAX_INTERFACES || self.in_use(firewall, interface) {
             return Err(TreeRefusal::BadInterface);
         }
         if ROWS <= self.domain_count {
