@@ -19,7 +19,7 @@ impl TreeTable {
     pub fn firewall_uplink(&self, firewall: usize) -> Option<Uplink>
         ensures { result ≡ slice_get (shape_of self.now).firewalls firewall }
     {
-        self.firewalls().get(firewall).copied()
+        self.firewalls.get(firewall)
     }
 
     // Where a domain lies; nothing for domain 0, and where there is none of this number.
@@ -27,7 +27,7 @@ impl TreeTable {
         ensures { MatchOption result ((f i : ℕ) → Lies (shape_of self.now) domain f i → ⊥) (λ u. Lies (shape_of self.now) domain u.node u.interface) }
     {
         let row = domain.checked_sub(1)?;
-        self.domains().get(row).copied()
+        self.domains.get(row)
     }
 
     // The interface by which a firewall and a domain are joined, if they are.
@@ -53,14 +53,15 @@ impl TreeTable {
         let Some(upper) = self.firewall_uplink(firewall) else {
             return false;
         };
-        u32::from(upper.interface) == interface || has_row(self.domains(), firewall, interface)
+        u32::from(upper.interface) == interface
+            || has_row(self.domains.as_slice(), firewall, interface)
     }
 
     // A firewall that both domains are joined to, if there is one.
     pub fn shared_firewall(&self, one: usize, other: usize) -> Option<usize>
         ensures { MatchOption result ((f i j : ℕ) → Joined (shape_of self.now) f one i → Joined (shape_of self.now) f other j → ⊥) (λ f. (i : ℕ) × (j : ℕ) × Joined (shape_of self.now) f one i × Joined (shape_of self.now) f other j) }
     {
-        (0..self.firewalls().len()).find(|firewall| self.is_shared(*firewall, one, other))
+        (0..self.firewall_count()).find(|firewall| self.is_shared(*firewall, one, other))
     }
 
     // Whether both domains are joined to the firewall.

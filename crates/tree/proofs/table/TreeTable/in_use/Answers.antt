@@ -11,4 +11,4 @@ returns-then-from-interface c = (
 
 pub returns-else-from-interface : goal.returns-else-from-interface
 returns-else-from-interface c =
-    used_below (shape_of c.args.self.now) c.args.firewall c.in-Some.upper c.in-Some.ensures c.has_row.result c.args.interface (λ e. c.if-from-interface.false (c.from.ensures ∙ e)) (rw c.domains.ensures at c.has_row.ensures)
+    used_below (shape_of c.args.self.now) c.args.firewall c.in-Some.upper c.in-Some.ensures c.has_row.result c.args.interface (λ e. c.if-from-interface.false (c.from.ensures ∙ e)) (rw c.as_slice.ensures at c.has_row.ensures)

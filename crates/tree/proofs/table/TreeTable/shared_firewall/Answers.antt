@@ -9,4 +9,4 @@ pub returns : goal.returns
 returns c =
     let s = shape_of c.args.self.now in
     let ok = sound_of c.args.self.now in
-    shared_of_all s ok c.args.one c.args.other c.find.result (rw c.firewalls.ensures at (first_from_Range _ _ _ _ (Shared s ok c.args.one c.args.other) (Unshared s ok c.args.one c.args.other) c.find.ensures.ran (λ x q k. search (rules, tests)) (λ x q k. search (rules, tests))))
+    shared_of_all s ok c.args.one c.args.other c.find.result (rw c.firewall_count.ensures at (first_from_Range _ _ _ _ (Shared s ok c.args.one c.args.other) (Unshared s ok c.args.one c.args.other) c.find.ensures.ran (λ x q k. search (rules, tests)) (λ x q k. search (rules, tests))))
