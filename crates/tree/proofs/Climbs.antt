@@ -1,85 +1,52 @@
--- One step up in a table.
-use Rattle.std.proofs.Common.{◌≡◌, ℕ, ◌+◌, ◌-◌, ◌<◌, ◌≤◌, Some, None, Option, sym, refl, ap, ◌∙◌, subst, inl, inr, arith}
-use Rattle.model.specs.Shape.{Shape, Hangs, Lies, Depth, under}
+-- One step up in a tree.
+use Rattle.std.proofs.Common.{◌≡◌, ℕ, suc, ◌<◌, ◌≤◌, Some, None, Option, sym, refl, ◌∙◌, subst, inl, inr, arith}
+use Rattle.std.proofs.lemmas.Option.{slice_get_within}
+use native.Mathlib.Decide.{ℕ_discrete}
+use Rattle.model.specs.Shape.{Shape, Domain, Hangs, Lies, Sound}
 use Rattle.model.specs.Subtree.{Sub, self, climb, Way, up, across, down}
 use Rattle.model.specs.declared.path.Hop.{Hop}
-use Rattle.model.proofs.Subtrees.{hangs_one, lies_one, sub_step, sub_le, sub_root, under_zero, above_less}
-use Rattle.tree.specs.Rules.{node_at, interface_at}
-use Rattle.tree.specs.Table.{shape_of}
+use Rattle.model.proofs.Subtrees.{hangs_one, lies_one, sub_step, sub_le, sub_root}
 use Rattle.tree.specs.Toward.{BranchOf, ChildOf}
-use Rattle.tree.specs.declared.table.TreeTable.{TreeTable}
-use Rattle.tree.proofs.Tables.{sound_of, count_domains, lies_before, above_before, lies_is}
 
-module _ (t : TreeTable) where
-  -- the firewall above a domain, and the domain above that
-  abbrev pub own : ℕ → ℕ
-  own d = node_at t.domains (d - 1)
+pub branch_own : (s : Shape) (d f i g : ℕ) → Lies s d f i → f ≡ g → BranchOf s g d (Some d)
+branch_own s d f i g lies same = (i, subst (λ x. Lies s d x i) same lies, self refl)
 
-  abbrev pub above : ℕ → ℕ
-  above d = node_at t.firewalls (own d)
+-- from a domain d through the firewall f above it to the domain c above that
+module _ (s : Shape) (d f i c j : ℕ) (lies : Lies s d f i) (hangs : Hangs s f c j) where
+  pub branch_more : (g : ℕ) (r : Option ℕ) → (f ≡ g → ⊥) → BranchOf s g c r → BranchOf s g d r
+  branch_more g None other none = λ e k l r. elim (sub_step s e d f i c j lies hangs r) [
+    | inl same ↦ other (lies_one s e f i g k (subst (λ x. Lies s x f i) same lies) l).0
+    | inr u ↦ none e k l u
+  ]
+  branch_more g (Some e) other found = let (k, l, r) = found in (k, l, climb lies hangs r)
 
-  pub branch_zero : (f d : ℕ) → d ≡ 0 → BranchOf (shape_of t) f d None
-  branch_zero f d none = under_zero (shape_of t) (sound_of t) f d none
+  pub child_own : (u : ℕ) → c ≡ u → ChildOf s u d (Some d)
+  child_own u same = (f, i, j, lies, subst (λ x. Hangs s f x j) same hangs, self refl)
 
-  module _ (d : ℕ) (some : d ≡ 0 → ⊥) (le : d ≤ t.domain_count) where
-    lies : Lies (shape_of t) d (own d) (interface_at t.domains (d - 1))
-    lies = lies_before t d some le
+  pub child_more : (u : ℕ) (r : Option ℕ) → (c ≡ u → ⊥) → ChildOf s u c r → ChildOf s u d r
+  child_more u None other none = λ r. elim (sub_step s u d f i c j lies hangs r) [
+    | inl same ↦ same
+    | inr v ↦ absurd (other (none v))
+  ]
+  child_more u (Some e) other found = let (g, k, m, l, h, r) = found in (g, k, m, l, h, climb lies hangs r)
 
-    hangs : Hangs (shape_of t) (own d) (above d) (interface_at t.firewalls (own d))
-    hangs = above_before t d some le
+-- there is a domain that lies somewhere, and it is not domain 0
+pub row_in : (s : Shape) (e f i : ℕ) → Lies s e f i → (0 < e) × Domain s e
+row_in s e f i (k, is, at) = let less = slice_get_within s.domains k _ at in (omega arith, omega arith)
 
-    pub above_falls : above d < d
-    above_falls = above_less (shape_of t) (sound_of t) d (own d) _ (above d) _ lies hangs
+module _ (s : Shape) (ok : Sound s) where
+  pub child_low : (u d : ℕ) → d ≤ u → ChildOf s u d None
+  child_low u d le r = let low = sub_le s ok u d r in omega arith
 
-    pub branch_own : (f : ℕ) → own d ≡ f → BranchOf (shape_of t) f d (Some d)
-    branch_own f same = (interface_at t.domains (d - 1), subst (λ x. Lies (shape_of t) d x (interface_at t.domains (d - 1))) same lies, self refl)
-
-    pub branch_more : (f : ℕ) (r : Option ℕ) → (own d ≡ f → ⊥) → BranchOf (shape_of t) f (above d) r → BranchOf (shape_of t) f d r
-    branch_more f None other none = λ e i l r. elim (sub_step (shape_of t) e d (own d) _ (above d) _ lies hangs r) [
-      | inl same ↦ other (lies_one (shape_of t) e (own d) _ f i (subst (λ x. Lies (shape_of t) x (own d) (interface_at t.domains (d - 1))) same lies) l).0
-      | inr u ↦ none e i l u
-    ]
-    branch_more f (Some e) other found = let (i, l, r) = found in (i, l, climb lies hangs r)
-
-    pub child_own : (u : ℕ) → above d ≡ u → ChildOf (shape_of t) u d (Some d)
-    child_own u same = (
-      own d,
-      interface_at t.domains (d - 1),
-      interface_at t.firewalls (own d),
-      lies,
-      subst (λ x. Hangs (shape_of t) (own d) x (interface_at t.firewalls (own d))) same hangs,
-      self refl,
-    )
-
-    pub child_more : (u : ℕ) (r : Option ℕ) → (above d ≡ u → ⊥) → ChildOf (shape_of t) u (above d) r → ChildOf (shape_of t) u d r
-    child_more u None other none = λ r. elim (sub_step (shape_of t) u d (own d) _ (above d) _ lies hangs r) [
-      | inl same ↦ same
-      | inr v ↦ absurd (other (none v))
-    ]
-    child_more u (Some e) other found = let (f, i, j, l, h, r) = found in (f, i, j, l, h, climb lies hangs r)
-
-    pub depth_more : (n : ℕ) → Depth (shape_of t) (above d) n → Depth (shape_of t) d (n + 1)
-    depth_more n deep = under lies hangs deep (omega arith)
-
-  pub child_low : (u d : ℕ) → d ≤ u → ChildOf (shape_of t) u d None
-  child_low u d le r = let low = sub_le (shape_of t) (sound_of t) u d r in omega arith
-
-  -- what the rows of a found domain say
-  pub row_of : (e f i : ℕ) → Lies (shape_of t) e f i → (e ≡ 0 → ⊥) × (e ≤ t.domain_count) × (own e ≡ f) × (interface_at t.domains (e - 1) ≡ i)
-  row_of e f i l =
-      let (k, is, less, at, by) = lies_is t e f i l in
-      let same : e - 1 ≡ k = omega arith in
-      (omega arith, omega arith, ap (node_at t.domains) same ∙ at, ap (interface_at t.domains) same ∙ by)
-
-  pub row_in : (e f i : ℕ) → Lies (shape_of t) e f i → (0 < e) × (e ≤ t.domain_count)
-  row_in e f i l = let (some, le, at, by) = row_of e f i l in (omega arith, le)
-
-  module _ (u v : ℕ) (here : u ≤ t.domain_count) (there : v ≤ t.domain_count) (apart : u ≡ v → ⊥) (outside : ChildOf (shape_of t) u v None) where
-    pub not_sub : Sub (shape_of t) u v → ⊥
+  module _ (u v : ℕ) (there : Domain s v) (apart : u ≡ v → ⊥) (outside : ChildOf s u v None) where
+    pub not_sub : Sub s u v → ⊥
     not_sub r = apart (sym (outside r))
 
-    pub not_zero : u ≡ 0 → ⊥
-    not_zero none = not_sub (subst (λ x. Sub (shape_of t) x v) (sym none) (sub_root (shape_of t) (sound_of t) v (omega (arith, count_domains t))))
+    pub not_zero : 0 < u
+    not_zero = elim (ℕ_discrete u 0) [
+      | yes none ↦ absurd (not_sub (subst (λ x. Sub s x v) (sym none) (sub_root s ok v there)))
+      | no some ↦ omega arith
+    ]
 
 -- the hops that a table makes are on the way
 module _ (s : Shape) (u v : ℕ) (h : Hop) where

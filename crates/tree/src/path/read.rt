@@ -11,7 +11,7 @@ impl Route {
     pub fn hops(&self) -> &[Hop]
         ensures { result.now ≡ hops_of self.now }
     {
-        &self.hops[..self.count]
+        self.hops.as_slice()
     }
 
     // How many hops there are.

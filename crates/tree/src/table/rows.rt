@@ -1,6 +1,6 @@
 // The rows of a table.
-ghost use Rattle.std.specs.Prelude.{◌<◌, ◌≤◌};
-ghost use Rattle.model.specs.Shape.{Hangs, Lies};
+ghost use Rattle.std.specs.Prelude.{◌<◌};
+ghost use Rattle.model.specs.Shape.{Domain, Firewall, Hangs, Lies};
 ghost use Rattle.tree.specs.Table.{shape_of};
 
 use super::TreeTable;
@@ -9,20 +9,20 @@ use model::Uplink;
 impl TreeTable {
     // Where a firewall hangs.
     pub(crate) fn upper(&self, firewall: usize) -> Uplink
-        requires { firewall < self.now.firewall_count }
+        requires { Firewall (shape_of self.now) firewall }
         ensures hangs { Hangs (shape_of self.now) firewall result.node result.interface }
-        ensures within { result.node ≤ self.now.domain_count }
+        ensures within { Domain (shape_of self.now) result.node }
     {
-        self.firewalls[firewall]
+        self.firewalls.as_slice()[firewall]
     }
 
     // Where a domain other than 0 lies.
     pub(crate) fn lower(&self, domain: usize) -> Uplink
         requires some { 0 < domain }
-        requires domain { domain ≤ self.now.domain_count }
+        requires domain { Domain (shape_of self.now) domain }
         ensures lies { Lies (shape_of self.now) domain result.node result.interface }
-        ensures within { result.node < self.now.firewall_count }
+        ensures within { Firewall (shape_of self.now) result.node }
     {
-        self.domains[domain - 1]
+        self.domains.as_slice()[domain - 1]
     }
 }

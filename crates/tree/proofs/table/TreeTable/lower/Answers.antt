@@ -1,9 +1,6 @@
-use Rattle.std.proofs.Common.{◌-◌, arith}
-use Rattle.tree.proofs.Tables.{lies_before}
+use Rattle.tree.proofs.Links.{lies_before}
 use Rattle.tree.proofs.table.TreeTable.lower.Goals as goal
+use Rattle.tree.specs.Table.{shape_of}
 
-pub returns : goal.returns
-returns c =
-    let t = c.args.self.now in
-    let low = t.below (c.args.domain - 1) (omega arith) in
-    record { lies = lies_before t c.args.domain (omega arith) (omega arith); within = omega arith }
+pub returns-clause-lies : goal.returns-clause-lies
+returns-clause-lies c = rw c.as_slice.ensures (lies_before (shape_of c.args.self.now) c.args.domain c.requires.some c.requires.domain)
