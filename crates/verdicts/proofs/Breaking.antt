@@ -25,30 +25,12 @@ use Rattle.lists.specs.declared.table.ListTable.{ListTable}
 use Rattle.lists.proofs.Bounds.{length_max}
 use Rattle.lists.proofs.Laid.{laid_length}
 use Rattle.checks.specs.Breaks.{decided_against, BreaksList, BreakFound}
+use Rattle.verdicts.proofs.Edits.{against_decided, decided_against_is}
+use Rattle.verdicts.proofs.Hops.{walk_domains}
 use Rattle.verdicts.specs.Asked.{HopFound, BreaksOn, HopsFound, AskedFound}
 use Rattle.verdicts.specs.declared.route.Break.{Break}
 
--- a walk with a hop starts and ends at domains that there are
-walk_end : (s : Shape) → Sound s → (hs : List Hop) (u v : ℕ) → Walk s u hs v → Domain s u → Domain s v
-walk_end s ok [] u v walk there = subst (Domain s) walk there
-walk_end s ok (h ∷ hs) u v walk there = walk_end s ok hs h.reached v walk.2 (joined_domain s ok h.firewall h.reached h.left walk.1)
-
-walk_domains : (s : Shape) → Sound s → (hs : List Hop) (u v n : ℕ) (h : Hop) → Walk s u hs v → slice_get hs n ≡ Some h → Domain s u × Domain s v
-walk_domains s ok [] u v n h walk at = none_some at
-walk_domains s ok (k ∷ hs) u v n h walk at =
-    let start = joined_domain s ok k.firewall u k.entered walk.0 in
-    (start, walk_end s ok (k ∷ hs) u v walk start)
-
 module _ {A R V W : Type 0} (addr : A → V → Type 0) (rests : R → W → Type 0) where
-  -- decided against a sort, in two words for the same
-  against_in : (w : Decision) (rs : List (Rule A R)) (k : Packet V W) → (n : ℕ) × Decided addr rests rs k n (decided_against w) → Against addr rests w rs k
-  against_in Accept rs k d = d
-  against_in Discard rs k d = d
-
-  against_out : (w : Decision) (rs : List (Rule A R)) (k : Packet V W) → Against addr rests w rs k → (n : ℕ) × Decided addr rests rs k n (decided_against w)
-  against_out Accept rs k d = d
-  against_out Discard rs k d = d
-
   -- a packet that is decided is on an interface that there is
   decided_low : (rs : List (Rule A R)) (k : Packet V W) (n : ℕ) (w : Decision) → Decided addr rests rs k n w → k.interface < max_interfaces
   decided_low rs k n w (r, first, is) = low_bit r.interfaces.mask k.interface r.interfaces.few first.fit.interface
@@ -60,13 +42,13 @@ module _ {A R V W : Type 0} (addr : A → V → Type 0) (rests : R → W → Typ
       destination = b.destination;
       rest = b.rest;
       entered = b.entered;
-      against = against_in p.sort (rules_of t h.firewall) k b.against;
+      against = decided_against_is addr rests p.sort (rules_of t h.firewall) k b.against;
     }
 
     in_list : (h : Hop) (k : Packet V W) → BreaksIn addr rests t p h k → BreaksList addr rests (rules_of t h.firewall) p h.entered k
     in_list h k b =
         let rs = rules_of t h.firewall in
-        let (n, decided) = against_out p.sort rs k b.against in
+        let (n, decided) = against_decided addr rests p.sort rs k b.against in
         record {
           source = b.source;
           destination = b.destination;
@@ -96,7 +78,7 @@ module _ {A R V W : Type 0} (addr : A → V → Type 0) (rests : R → W → Typ
     module _ (ok : Sound t.shape) where
       -- no packet breaks what has no route
       pub unrouted_kept : (Domain t.shape p.from × Domain t.shape p.to → ⊥) → (f : ℕ) (k : Packet V W) → BreaksAt addr rests t p f k → ⊥
-      unrouted_kept none f k b = none (walk_domains t.shape ok b.hops p.from p.to b.place b.hop b.route.walk b.on)
+      unrouted_kept none f k b = none (walk_domains t.shape ok b.hops p.from p.to b.route.walk b.place b.hop b.on)
 
       -- what the hops of the route tell, told of the property
       pub asked_found : (hops : List Hop) → Route t.shape p.from p.to hops → (frames : ℕ) (r : Result (Option (Break V W)) TooShort) → HopsFound addr rests t p hops frames r → AskedFound addr rests t p frames r

@@ -24,11 +24,11 @@ use Rattle.verdicts.proofs.Hops.{firewall_one, hop_joined, walk_domains}
 
 module _ {A R V W : Type 0} (addr : A → V → Type 0) (rests : R → W → Type 0) where
   -- to decide against a sort is to have the other decision
-  against_decided : (w : Decision) (rs : List (Rule A R)) (k : Packet V W) → Against addr rests w rs k → (n : ℕ) × Decided addr rests rs k n (decided_against w)
+  pub against_decided : (w : Decision) (rs : List (Rule A R)) (k : Packet V W) → Against addr rests w rs k → (n : ℕ) × Decided addr rests rs k n (decided_against w)
   against_decided Accept rs k h = h
   against_decided Discard rs k h = h
 
-  decided_against_is : (w : Decision) (rs : List (Rule A R)) (k : Packet V W) → (n : ℕ) × Decided addr rests rs k n (decided_against w) → Against addr rests w rs k
+  pub decided_against_is : (w : Decision) (rs : List (Rule A R)) (k : Packet V W) → (n : ℕ) × Decided addr rests rs k n (decided_against w) → Against addr rests w rs k
   decided_against_is Accept rs k h = h
   decided_against_is Discard rs k h = h
 
