@@ -15,6 +15,7 @@ pub struct FixedVec<T, const N: usize> {
     pub ghost counted: { length (take count items) ≡ count },
 }
 
+// By hand: beside ghost fields a derive of `Clone` is refused.
 impl<T: Copy, const N: usize> Clone for FixedVec<T, N> {
     ghost use Rattle.std.specs.Prelude.{⊤};
 
