@@ -1,11 +1,14 @@
 -- Addresses of a region that are not of a domain.
-use Rattle.std.specs.Prelude.{◌≡◌, ℕ, ◌<◌, ◌≤◌, ◌⊎◌, List, length, Some, None, Ok, Err, Option, Result, ◌≢◌}
+use Rattle.std.specs.Prelude.{◌≡◌, ℕ, ◌<◌, ◌≤◌, ◌⊎◌, List, map, length, Some, None, Ok, Err, Option, Result, ◌≢◌}
 use Rattle.std.specs.List.{slice_get}
 use Rattle.kinds.specs.Words.{Inside, Share}
+use Rattle.kinds.specs.declared.kind.Kind.{Ghosts}
+use Rattle.search.specs.declared.list.Entry.{Entry}
 use Rattle.search.specs.declared.frames.TooShort.{TooShort}
 use Rattle.search.specs.declared.list.Match.{Match}
 use Rattle.model.specs.Properties.{Of}
 use Rattle.model.specs.Tree.{Tree, Block}
+use Rattle.checks.specs.Rows.{block_entry}
 
 -- the domain that a match in the blocks means
 abbrev pub domain_in : Option Match → ℕ
@@ -16,6 +19,11 @@ domain_in None = 0
 pub record OwnedApart {A V : Type 0} (addr : A → V → Type 0) (bs : List (Block A)) : Type 0 where
   pub owned : (k : ℕ) (b : Block A) → slice_get bs k ≡ Some b → b.domain ≢ 0
   pub apart : (j k : ℕ) (b c : Block A) → slice_get bs j ≡ Some b → slice_get bs k ≡ Some c → Share (addr b.region) (addr c.region) → j ≡ k
+
+-- the rows are those of the tree's blocks
+pub record BlocksAre {A R V X : Type 0} (kind : Ghosts A V X) (rows : List (Entry X)) (t : Tree A R) : Type 0 where
+  pub same : rows ≡ map (block_entry kind.plain) t.blocks
+  pub owned : OwnedApart kind.holds t.blocks
 
 -- the outcome of the addresses of a domain, in the rows of the blocks
 abbrev pub Home : ℕ → Option ℕ → Type 0

@@ -1,6 +1,6 @@
 // Of which domain addresses are.
 ghost use Rattle.std.specs.Prelude.{◌≡◌, map, length};
-ghost use Rattle.checks.specs.Addresses.{OwnedApart, AstrayFound, Home, domain_in};
+ghost use Rattle.checks.specs.Addresses.{BlocksAre, AstrayFound, Home, domain_in};
 ghost use Rattle.checks.specs.Rows.{block_entry};
 ghost use Rattle.model.specs.Properties.{Of};
 ghost use Rattle.model.specs.Tree.{Tree};
@@ -38,7 +38,7 @@ pub fn find_astray<A: Kind, R: Kind>(
     domain: usize,
     frames: &mut [Frame<A::Row>],
 ) -> Result<Option<A::Value>, TooShort>
-    ensures { (t : Tree A R) → OwnedApart A.Kind.holds t.blocks → blocks.now ≡ map (block_entry A.Kind.plain) t.blocks → AstrayFound A.Kind.holds R.Kind.holds t region domain (length frames.old) result }
+    ensures { (t : Tree A R) → BlocksAre A.Kind blocks.now t → AstrayFound A.Kind.holds R.Kind.holds t region domain (length frames.old) result }
 {
     if frames.len() <= blocks.len() {
         return Err(TooShort);

@@ -1,24 +1,21 @@
 -- Breaks of a property in the hops of its route.
-use Rattle.std.proofs.Common.{◌≡◌, ℕ, ◌+◌, ◌<◌, List, [], ◌∷◌, Some, None, Ok, Err, Option, Result, refl, subst, arith}
+use Rattle.std.proofs.Common.{◌≡◌, ℕ, ◌+◌, ◌<◌, List, Some, None, Ok, Err, Option, Result, refl, subst, arith}
 use Rattle.std.specs.List.{slice_get}
-use Rattle.kinds.specs.Makes.{none_some}
 use Rattle.kinds.specs.Masks.{low_bit}
 use Rattle.search.specs.First.{Before}
 use Rattle.search.specs.declared.frames.TooShort.{TooShort}
 use Rattle.search.proofs.Positions.{before_more}
 use Rattle.model.specs.Limits.{max_interfaces}
 use Rattle.model.specs.Packets.{Decided}
-use Rattle.model.specs.Properties.{Against, BreaksIn, BrokenIn, BreaksAt}
-use Rattle.model.specs.Shape.{Shape, Domain, Walk, Route, Sound}
+use Rattle.model.specs.Properties.{BreaksIn, BrokenIn, BreaksAt}
+use Rattle.model.specs.Shape.{Domain, Route, Sound}
 use Rattle.model.specs.Tree.{Tree, rules_of}
 use Rattle.model.specs.declared.path.Hop.{Hop}
 use Rattle.model.specs.declared.rules.Decision.{Decision}
-use Rattle.model.specs.declared.rules.Decision.TheVariants.{Accept, Discard}
 use Rattle.model.specs.declared.rules.Packet.{Packet}
 use Rattle.model.specs.declared.rules.Property.{Property}
 use Rattle.model.specs.declared.rules.Rule.{Rule}
 use Rattle.model.proofs.Routes.{route_one}
-use Rattle.model.proofs.Subtrees.{joined_domain}
 use Rattle.lists.specs.Layout.{Laid}
 use Rattle.lists.specs.Lengths.{lengths_of}
 use Rattle.lists.specs.declared.table.ListTable.{ListTable}

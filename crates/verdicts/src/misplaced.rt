@@ -1,7 +1,7 @@
 // Standing properties that the blocks misplace.
 ghost use Rattle.std.specs.Prelude.{◌≡◌, map, length};
-ghost use Rattle.checks.specs.Addresses.{OwnedApart};
-ghost use Rattle.checks.specs.Rows.{block_entry, property_row};
+ghost use Rattle.checks.specs.Addresses.{BlocksAre};
+ghost use Rattle.checks.specs.Rows.{property_row};
 ghost use Rattle.model.specs.Tree.{Tree};
 ghost use Rattle.verdicts.specs.Misplaced.{SourceFound, AstrayIn, MisplacedFound};
 
@@ -24,7 +24,7 @@ pub fn first_misplaced<A: Kind, R: Kind>(
     properties: &[PropertyRow<A::Row, R::Row>],
     frames: &mut [Frame<A::Row>],
 ) -> Result<Option<Astray<A::Value>>, TooShort>
-    ensures { (t : Tree A R) → OwnedApart A.Kind.holds t.blocks → blocks.now ≡ map (block_entry A.Kind.plain) t.blocks → properties.now ≡ map (property_row A.Kind.plain R.Kind.plain) t.properties → MisplacedFound A.Kind.holds R.Kind.holds t (length frames.old) result }
+    ensures { (t : Tree A R) → BlocksAre A.Kind blocks.now t → properties.now ≡ map (property_row A.Kind.plain R.Kind.plain) t.properties → MisplacedFound A.Kind.holds R.Kind.holds t (length frames.old) result }
 {
     for (index, row) in properties.iter().enumerate() {
         if let Some(property) = read_property::<A, R>(*row) {
@@ -45,7 +45,7 @@ fn astray_in<A: Kind, R: Kind>(
     property: Property<A, R>,
     frames: &mut [Frame<A::Row>],
 ) -> Result<Option<A::Value>, TooShort>
-    ensures { (t : Tree A R) → OwnedApart A.Kind.holds t.blocks → blocks.now ≡ map (block_entry A.Kind.plain) t.blocks → AstrayIn A.Kind.holds R.Kind.holds t property (length frames.old) result }
+    ensures { (t : Tree A R) → BlocksAre A.Kind blocks.now t → AstrayIn A.Kind.holds R.Kind.holds t property (length frames.old) result }
 {
     let in_source = source_astray(blocks, property, frames)?;
     match in_source {
@@ -62,7 +62,7 @@ pub fn source_astray<A: Kind, R: Kind>(
     property: Property<A, R>,
     frames: &mut [Frame<A::Row>],
 ) -> Result<Option<A::Value>, TooShort>
-    ensures { (t : Tree A R) → OwnedApart A.Kind.holds t.blocks → blocks.now ≡ map (block_entry A.Kind.plain) t.blocks → SourceFound A.Kind.holds R.Kind.holds t property (length frames.old) result }
+    ensures { (t : Tree A R) → BlocksAre A.Kind blocks.now t → SourceFound A.Kind.holds R.Kind.holds t property (length frames.old) result }
 {
     match property.sort {
         Decision::Accept => find_astray::<A, R>(blocks, property.source, property.from, frames),

@@ -8,39 +8,39 @@ use Rattle.verdicts.proofs.misplaced.first_misplaced.Goals as goal
 use Rattle.verdicts.proofs.misplaced.first_misplaced.Goals.{in-Some+in_ok-address+in_default-2, in_default}
 
 pub returns-in_err-address : goal.returns-in_err-address
-returns-in_err-address g c t ok is are =
+returns-in_err-address g c t blocks are =
     let p = err_from_is_err_and c.from_residual.result c.from_residual.ensures.1 in
-    rw p.1 (omega (arith, c.in_err-address.ensures t ok is))
+    rw p.1 (omega (arith, c.in_err-address.ensures t blocks))
 
 pub returns-in-Some-2 : goal.returns-in-Some-2
-returns-in-Some-2 g c t ok is are =
+returns-in-Some-2 g c t blocks are =
     let a = g.A.Kind in
     let r = g.R.Kind in
-    let astray = subst (λ o. AstrayIn a.holds r.holds t c.in-Some.property (length c.loop-index.frames) (Ok o)) c.in-Some-2.is (c.in_ok-address.ensures t ok is) in (
+    let astray = subst (λ o. AstrayIn a.holds r.holds t c.in-Some.property (length c.loop-index.frames) (Ok o)) c.in-Some-2.is (c.in_ok-address.ensures t blocks) in (
       c.in-Some.property,
       first_property a.plain r.plain a.region r.region g.met.A.Kind.rereads g.met.R.Kind.rereads (SomeAstray a.holds r.holds t) c.args.properties.now t.properties are
-          c.loop-index.index c.index-properties-index.result c.in-Some.property (nth_get_or _ _ _ c.loop-index-test.true c.index-properties-index.is) (sym c.read_property.ensures ∙ c.in-Some.is) (c.loop-index.invariant t ok is are) (c.in-Some-2.address, astray),
+          c.loop-index.index c.index-properties-index.result c.in-Some.property (nth_get_or _ _ _ c.loop-index-test.true c.index-properties-index.is) (sym c.read_property.ensures ∙ c.in-Some.is) (c.loop-index.invariant t blocks are) (c.in-Some-2.address, astray),
       astray,
     )
 
 pub loop-index-preserved : goal.loop-index-preserved
-loop-index-preserved g c t ok is are =
+loop-index-preserved g c t blocks are =
     let a = g.A.Kind in
     let r = g.R.Kind in
     let here = nth_get_or c.args.properties.now c.loop-index.index c.index-properties-index.result c.loop-index-test.true c.index-properties-index.is in
     elim c.match-read_property.branch [
       | in-Some+in_ok-address+in_default-2 w ↦
-          let none = subst (λ o. AstrayIn a.holds r.holds t w.in-Some.property (length c.loop-index.frames) (Ok o)) w.in_default-2.is (w.in_ok-address.ensures t ok is) in
+          let none = subst (λ o. AstrayIn a.holds r.holds t w.in-Some.property (length c.loop-index.frames) (Ok o)) w.in_default-2.is (w.in_ok-address.ensures t blocks) in
           past_property a.plain r.plain a.region r.region g.met.A.Kind.rereads g.met.R.Kind.rereads (SomeAstray a.holds r.holds t) c.args.properties.now t.properties are
-          c.loop-index.index c.index-properties-index.result w.in-Some.property here (sym c.read_property.ensures ∙ w.in-Some.is) (c.loop-index.invariant t ok is are) none
+          c.loop-index.index c.index-properties-index.result w.in-Some.property here (sym c.read_property.ensures ∙ w.in-Some.is) (c.loop-index.invariant t blocks are) none
       | in_default w ↦
           past_nothing a.plain r.plain a.region r.region g.met.A.Kind.rereads g.met.R.Kind.rereads (SomeAstray a.holds r.holds t) c.args.properties.now t.properties are
           c.loop-index.index c.index-properties-index.result here (sym c.read_property.ensures ∙ w.in_default.is)
     ]
 
 pub returns : goal.returns
-returns g c t ok is are =
+returns g c t blocks are =
     let a = g.A.Kind in
     let r = g.R.Kind in
     no_property a.plain r.plain a.region r.region g.met.A.Kind.rereads g.met.R.Kind.rereads (SomeAstray a.holds r.holds t) c.args.properties.now t.properties are
-    c.loop-index.index c.loop-index-test.false (c.loop-index.invariant t ok is are)
+    c.loop-index.index c.loop-index-test.false (c.loop-index.invariant t blocks are)
