@@ -1,15 +1,10 @@
 -- What the links of a tree say of the domains that a firewall is joined to.
-use Rattle.std.proofs.Common.{◌≡◌, ℕ, ◌-◌, suc, Bool, subst, ◌<◌, ◌≤◌, length, true, arith, Option, Some, None, MatchOption, Decides, is_some, sym, refl, inl, inr}
+use Rattle.std.proofs.Common.{◌≡◌, ℕ, suc, Bool, subst, ◌<◌, ◌≤◌, length, true, arith, Option, Some, None, MatchOption, Decides, is_some, sym, refl, inl, inr}
 use Rattle.std.specs.List.{slice_get}
-use Rattle.std.proofs.lemmas.Option.{slice_get_within, slice_get-get_or}
-use Rattle.model.specs.Shape.{Shape, Domain, Hangs, Lies, Joined, Sound}
+use Rattle.std.proofs.lemmas.Option.{slice_get_within}
+use Rattle.model.specs.Shape.{Shape, Hangs, Lies, Joined, Sound}
 use Rattle.model.specs.declared.path.Uplink.{Uplink}
-use Rattle.tree.specs.Rules.{no_uplink, node_at, interface_at}
-use Rattle.model.proofs.Subtrees.{hangs_one, lies_one}
-
--- the row of a domain other than 0
-pub lies_before : (s : Shape) (d : ℕ) → 0 < d → Domain s d → Lies s d (node_at s.domains (d - 1)) (interface_at s.domains (d - 1))
-lies_before s d some in-s = (d - 1, omega arith, slice_get-get_or s.domains (d - 1) no_uplink (omega arith))
+use Rattle.model.proofs.Subtrees.{hangs_one}
 
 -- no domain is joined to a firewall that there is not
 pub joined_none : (s : Shape) → Sound s → (f : ℕ) → None ≡ slice_get s.firewalls f → (d i : ℕ) → Joined s f d i → ⊥

@@ -1,8 +1,8 @@
 -- The tree of a table is sound, and its links are the table's rows.
-use Rattle.std.proofs.Common.{◌≡◌, ℕ, suc, ◌<◌, ◌≤◌, length, Some, sym, refl, ap, ◌∙◌, subst, inl, inr, arith}
+use Rattle.std.proofs.Common.{◌≡◌, ℕ, ◌-◌, suc, ◌<◌, length, Some, sym, refl, ap, ◌∙◌, subst, inl, inr, arith}
 use Rattle.std.proofs.lemmas.Bool.{cases_order}
 use Rattle.std.proofs.lemmas.Option.{slice_get-get_or, slice_get_within, get_or_from_slice_get}
-use Rattle.model.specs.Shape.{Shape, Hangs, Lies, Joined, Sound}
+use Rattle.model.specs.Shape.{Domain, Hangs, Lies, Joined, Sound}
 use Rattle.model.specs.declared.path.Uplink.{Uplink}
 use Rattle.model.proofs.Subtrees.{hangs_one}
 use Rattle.tables.specs.FixedVec.{used}
@@ -14,6 +14,13 @@ use Rattle.tree.specs.declared.table.TreeTable.{TreeTable}
 module _ (t : TreeTable) where
   pub hangs_at : (f : ℕ) → f < length (used t.firewalls) → Hangs (shape_of t) f (node_at (used t.firewalls) f) (interface_at (used t.firewalls) f)
   hangs_at f less = slice_get-get_or (used t.firewalls) f no_uplink less
+
+  -- what the rows say of a domain other than 0, and of the firewall above it
+  pub lies_before : (d : ℕ) → 0 < d → Domain (shape_of t) d → Lies (shape_of t) d (node_at (used t.domains) (d - 1)) (interface_at (used t.domains) (d - 1))
+  lies_before d some in-t = (d - 1, omega arith, slice_get-get_or (used t.domains) (d - 1) no_uplink (omega arith))
+
+  pub above_before : (d : ℕ) → 0 < d → Domain (shape_of t) d → Hangs (shape_of t) (node_at (used t.domains) (d - 1)) (node_at (used t.firewalls) (node_at (used t.domains) (d - 1))) (interface_at (used t.firewalls) (node_at (used t.domains) (d - 1)))
+  above_before d some in-t = hangs_at (node_at (used t.domains) (d - 1)) (t.below (d - 1) (omega arith))
 
   pub hangs_is : (f d i : ℕ) → Hangs (shape_of t) f d i → (f < length (used t.firewalls)) × (node_at (used t.firewalls) f ≡ d) × (interface_at (used t.firewalls) f ≡ i)
   hangs_is f d i h =

@@ -11,7 +11,6 @@ pub mod count;
 pub mod find;
 pub mod grow;
 pub mod read;
-pub mod rows;
 
 // A row for each domain but domain 0; there are no more firewalls than that.
 pub(crate) const ROWS: usize = MAX_DOMAINS - 1;

@@ -27,8 +27,7 @@ impl TreeTable {
         if domain == 0 {
             return 0;
         }
-        let own = self.lower(domain).node;
-        self.depth_of(self.upper(own).node) + 1
+        self.depth_of(self.hop_up(domain).reached) + 1
     }
 
     // The domain right below the firewall that has this domain in its subtree, if there is one.
@@ -39,11 +38,11 @@ impl TreeTable {
         if domain == 0 {
             return None;
         }
-        let own = self.lower(domain).node;
-        if own == firewall {
+        let up = self.hop_up(domain);
+        if up.firewall == firewall {
             return Some(domain);
         }
-        self.branch_toward(firewall, self.upper(own).node)
+        self.branch_toward(firewall, up.reached)
     }
 
     // The domain below a firewall of `top` that has this domain in its subtree, if there is one.
@@ -54,8 +53,7 @@ impl TreeTable {
         if domain <= top {
             return None;
         }
-        let own = self.lower(domain).node;
-        let above = self.upper(own).node;
+        let above = self.hop_up(domain).reached;
         if above == top {
             return Some(domain);
         }
@@ -72,11 +70,16 @@ impl TreeTable {
         if let Some(child) = self.child_toward(from, to) {
             return self.hop_down(child);
         }
-        let own = self.lower(from);
-        if let Some(branch) = self.branch_toward(own.node, to) {
-            return self.hop_across(from, branch);
+        let up = self.hop_up(from);
+        if let Some(branch) = self.branch_toward(up.firewall, to) {
+            // To another domain below the same firewall.
+            return Hop {
+                left: self.hop_up(branch).entered,
+                reached: branch,
+                ..up
+            };
         }
-        self.hop_up(from)
+        up
     }
 
     // The hop to the domain above.
@@ -85,38 +88,19 @@ impl TreeTable {
         requires domain { Domain (shape_of self.now) domain }
         ensures from { Lies (shape_of self.now) domain result.firewall result.entered }
         ensures onto { Hangs (shape_of self.now) result.firewall result.reached result.left }
+        ensures falls { result.reached < domain }
     {
-        let own = self.lower(domain);
-        let upper = self.upper(own.node);
+        let lower = self.domains.as_slice()[domain - 1];
+        let upper = self.firewalls.as_slice()[lower.node];
         Hop {
-            firewall: own.node,
-            entered: own.interface,
+            firewall: lower.node,
+            entered: lower.interface,
             left: upper.interface,
             reached: upper.node,
         }
     }
 
-    // The hop to a domain below the same firewall.
-    fn hop_across(&self, from: usize, to: usize) -> Hop
-        requires some { 0 < from }
-        requires domain { Domain (shape_of self.now) from }
-        requires other { 0 < to }
-        requires there { Domain (shape_of self.now) to }
-        ensures from { Lies (shape_of self.now) from result.firewall result.entered }
-        ensures onto { (f : ℕ) × Lies (shape_of self.now) to f result.left }
-        ensures reached { result.reached ≡ to }
-    {
-        let near = self.lower(from);
-        let far = self.lower(to);
-        Hop {
-            firewall: near.node,
-            entered: near.interface,
-            left: far.interface,
-            reached: to,
-        }
-    }
-
-    // The hop down to a domain.
+    // The hop down to a domain: the one up from there, backwards.
     fn hop_down(&self, domain: usize) -> Hop
         requires some { 0 < domain }
         requires domain { Domain (shape_of self.now) domain }
@@ -124,12 +108,11 @@ impl TreeTable {
         ensures onto { Lies (shape_of self.now) domain result.firewall result.left }
         ensures reached { result.reached ≡ domain }
     {
-        let lower = self.lower(domain);
-        let above = self.upper(lower.node);
+        let up = self.hop_up(domain);
         Hop {
-            firewall: lower.node,
-            entered: above.interface,
-            left: lower.interface,
+            firewall: up.firewall,
+            entered: up.left,
+            left: up.entered,
             reached: domain,
         }
     }

@@ -1,4 +1,4 @@
-use Rattle.std.proofs.Common.{sym, subst, suc, inl, inr, arith}
+use Rattle.std.proofs.Common.{sym, subst, suc, inl, inr}
 use Rattle.tables.specs.FixedVec.{used}
 use Rattle.tree.specs.Rules.{node_at}
 use Rattle.tree.proofs.Rows.{Ruled, branched_ruled, pushed}

@@ -1,5 +1,4 @@
 use Rattle.std.proofs.Common.{sym, subst, length, ◌<◌, arith}
-use Rattle.model.specs.declared.path.Uplink.{Uplink}
 use Rattle.tables.specs.FixedVec.{used}
 use Rattle.tree.proofs.Rows.{Ruled, attached_ruled, pushed}
 use Rattle.tree.proofs.Tables.{ruled_of}

@@ -1,4 +1,3 @@
-use Rattle.model.proofs.Subtrees.{lies_one}
 use Rattle.tree.specs.Table.{shape_of}
 use Rattle.tree.proofs.Links.{joined_none, unjoined}
 use Rattle.tree.proofs.Tables.{sound_of}
