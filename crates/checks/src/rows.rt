@@ -6,6 +6,9 @@ use kinds::{Kind, Pair, SetRow};
 use model::{Decision, Property, Rule};
 use search::Entry;
 
+// Rows are made by functions: `From` is refused for those of rules and blocks, which are types of
+// another crate, and all are made in one way.
+
 // The row of a packet region; `X` and `Y` are the rows of addresses and of rests.
 pub type PacketRow<X, Y> = Pair<SetRow, Pair<X, Pair<X, Y>>>;
 

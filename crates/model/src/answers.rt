@@ -52,7 +52,7 @@ pub enum Refusal<V, W> {
 }
 
 impl<V, W> Refusal<V, W> {
-    // The refusal's number in the table, 1 to 12.
+    // The refusal's number in the table, 1 to 12. A reply names it so; code matches the cases.
     pub fn number(&self) -> u8
         ensures { result ≡ number self.now }
     {

@@ -45,6 +45,7 @@ pub fn search<K: Kind>(
         row: target.row(),
         position: 0,
     };
+    // Fixed memory: the stack lies in the frames lent, and this is how many of them it has.
     let mut count = 1;
     while count > 0 {
         let top = frames[count - 1];

@@ -1,4 +1,5 @@
-// The rows of a lent table: the first `used` of them are in use, what lies past them is junk.
+// The rows of a lent table: the first `used` of them are in use, what lies past them is junk. A table is
+// memory that is lent for one call, so the count stays with the borrower and no struct has both.
 ghost use Rattle.std.specs.Prelude.{◌≡◌, ◌+◌, ◌-◌, ◌<◌, ◌≤◌, ◌↔◌, Some, length, take, drop, if◌then◌else◌, is_some, IsSome, IfSome, IfNone, OnSome, slice_set};
 ghost use Rattle.std.specs.List.{slice_get, insert, remove};
 ghost use Rattle.tables.specs.Rows.{row_in, row_out};

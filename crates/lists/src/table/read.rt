@@ -42,7 +42,7 @@ impl ListTable {
         rows_from(rows, self.start(firewall), self.length(firewall))
     }
 
-    // The lengths of the lists before that of a firewall.
+    // The lengths of the lists before that of a firewall. A chain of `take` and `sum` did not prove.
     fn before(&self, firewall: usize) -> &[usize]
         ensures before { result.now ≡ take firewall (lengths_of self.now) }
         ensures few { sum result.now ≤ max_rules }
