@@ -41,11 +41,7 @@ impl Judged for Range {
     }
 
     fn small_values(heap: Global) -> Result<Vec<u32>, AllocError> {
-        let mut values = Vec::new(heap);
-        for value in 0..NUMBERS {
-            values.push(value)?;
-        }
-        Ok(values)
+        (0..NUMBERS).collect(heap)
     }
 }
 
@@ -86,11 +82,7 @@ impl Judged for Prefix {
     }
 
     fn small_values(heap: Global) -> Result<Vec<u32>, AllocError> {
-        let mut values = Vec::new(heap);
-        for offset in 0..NUMBERS {
-            values.push(BASE | offset)?;
-        }
-        Ok(values)
+        (0..NUMBERS).map(|offset| BASE | offset).collect(heap)
     }
 }
 
@@ -110,11 +102,7 @@ impl Judged for Set {
     }
 
     fn small_values(heap: Global) -> Result<Vec<u8>, AllocError> {
-        let mut values = Vec::new(heap);
-        for value in 0..MEMBERS {
-            values.push(value)?;
-        }
-        Ok(values)
+        (0..MEMBERS).collect(heap)
     }
 }
 
