@@ -6,6 +6,7 @@ use crate::judged::{Judged, Place};
 use crate::random::Random;
 use search::{Entry, Found, Frame, Match, TooShort, Wish, outcome_of, search};
 use std::alloc::{AllocError, Global};
+use std::fmt;
 
 // What was done, and how often an answer was wrong.
 #[derive(Clone, Copy, Default)]
@@ -15,6 +16,22 @@ pub struct Tally {
     pub found: u32,
     pub none: u32,
     pub wrong: u32,
+}
+
+impl fmt::Display for Tally {
+    fn fmt<W: fmt::Write>(&self, f: &mut fmt::Formatter<W>) -> fmt::Result {
+        let Tally {
+            lists,
+            questions,
+            found,
+            none,
+            wrong,
+        } = *self;
+        write!(
+            f,
+            "{lists} lists, {questions} questions, {found} found, {none} none, wrong {wrong}"
+        )
+    }
 }
 
 impl Tally {
@@ -37,13 +54,13 @@ const QUESTIONS: u32 = 4;
 
 // The first entry that has the value by its numbers.
 fn judge<K: Judged>(list: &[Entry<K::Row>], value: K::Value) -> Option<Match> {
-    let position = list
-        .iter()
-        .position(|entry| K::row_has_number(entry.row, value))?;
-    Some(Match {
-        position,
-        outcome: list[position].outcome,
-    })
+    list.iter()
+        .enumerate()
+        .find(|(_, entry)| K::row_has_number(entry.row, value))
+        .map(|(position, entry)| Match {
+            position,
+            outcome: entry.outcome,
+        })
 }
 
 // Whether a match is as wished, told case by case: it judges `Wish::met_by`, so does not call it.
@@ -73,13 +90,13 @@ fn draw_wish(random: &mut Random) -> Wish {
 fn draw_list<K: Judged>(heap: Global, random: &mut Random) -> Result<Vec<Entry<K::Row>>, AllocError>
     ensures { IfOk result (λ list. vec_len list ≤ 8) }
 {
-    let mut list = Vec::new(heap);
-    for _position in 0..random.below(MOST_ENTRIES + 1) {
-        let row = K::draw(random, Place::Entry);
-        let outcome = random.below(OUTCOMES);
-        list.push(Entry { row, outcome })?;
-    }
-    Ok(list)
+    let count = random.below(MOST_ENTRIES + 1);
+    (0..count)
+        .map(|_| Entry {
+            row: K::draw(random, Place::Entry),
+            outcome: random.below(OUTCOMES),
+        })
+        .collect(heap)
 }
 
 // Whether a value of the row, among these, has a match as wished.
@@ -125,10 +142,7 @@ fn ask<K: Judged>(
         tally.hold(false);
         return Ok(());
     };
-    let mut frames = Vec::new(heap);
-    for _ in list {
-        frames.push(junk)?;
-    }
+    let mut frames = vec![in heap; junk; list.len()]?;
     tally.hold(search(list, target, wish, frames.as_mut_slice()).is_err());
     frames.push(junk)?;
     match search(list, target, wish, frames.as_mut_slice()) {

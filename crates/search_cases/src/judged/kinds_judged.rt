@@ -37,7 +37,7 @@ impl Judged for Range {
     }
 
     fn row_has_number(row: RangeRow, value: u32) -> bool {
-        row.lo <= value && value <= row.hi
+        (row.lo..=row.hi).contains(&value)
     }
 
     fn small_values(heap: Global) -> Result<Vec<u32>, AllocError> {
@@ -121,15 +121,14 @@ impl<L: Judged, R: Judged> Judged for Pair<L, R> {
     fn small_values(heap: Global) -> Result<Vec<Pair<L::Value, R::Value>>, AllocError> {
         let lefts = L::small_values(heap)?;
         let rights = R::small_values(heap)?;
-        let mut values = Vec::new(heap);
-        for left in lefts.iter() {
-            for right in rights.iter() {
-                values.push(Pair {
+        lefts
+            .iter()
+            .flat_map(|left| {
+                rights.iter().map(|right| Pair {
                     left: *left,
                     right: *right,
-                })?;
-            }
-        }
-        Ok(values)
+                })
+            })
+            .collect(heap)
     }
 }
