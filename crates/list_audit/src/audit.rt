@@ -1,9 +1,10 @@
 // Asking one question of a list.
-ghost use Rattle.std.specs.Prelude.{length};
+ghost use Rattle.std.specs.Prelude.{◌≡◌, length};
 ghost use Rattle.list_audit.specs.Asked.{Asked, ReadAll};
+ghost use Rattle.list_audit.specs.declared.audit.Mistake.TheVariants.{FewFrames};
 
 use kinds::Kind;
-use search::{Entry, Found, Frame, Wish, search};
+use search::{Entry, Found, Frame, TooShort, Wish, search};
 use std::error::Error;
 use std::fmt;
 
@@ -30,16 +31,22 @@ impl fmt::Display for Mistake {
 
 impl Error for Mistake {}
 
+impl From<TooShort> for Mistake {
+    ghost from_gives = { λ short mistake. mistake ≡ FewFrames };
+
+    fn from(_short: TooShort) -> Mistake {
+        Mistake::FewFrames
+    }
+}
+
 // How many rules the list has, if each has a region. One that has none would hold nothing.
 pub fn read_all<K: Kind>(list: &[Entry<K::Row>]) -> Result<usize, Mistake>
     ensures { ReadAll K.Kind.region list.now result }
 {
-    for (position, entry) in list.iter().enumerate() {
-        let Some(_) = K::read(entry.row) else {
-            return Err(Mistake::NoRule(position));
-        };
+    match list.iter().position(|entry| K::read(entry.row).is_none()) {
+        Some(position) => Err(Mistake::NoRule(position)),
+        None => Ok(list.len()),
     }
-    Ok(list.len())
 }
 
 // Looks for a value of the target that breaks what is asked: one with this match.
@@ -51,11 +58,6 @@ pub fn ask<K: Kind>(
 ) -> Result<Option<Found<K::Value>>, Mistake>
     ensures { Asked K.Kind.holds K.Kind.region list.now target breaks (length frames.old) result }
 {
-    let Some(region) = K::read(target) else {
-        return Err(Mistake::NoRegion);
-    };
-    match search(list, region, breaks, frames) {
-        Ok(answer) => Ok(answer),
-        Err(_) => Err(Mistake::FewFrames),
-    }
+    let region = K::read(target).ok_or(Mistake::NoRegion)?;
+    Ok(search(list, region, breaks, frames)?)
 }

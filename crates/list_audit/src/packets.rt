@@ -3,6 +3,7 @@ ghost use Rattle.std.specs.Prelude.{◌≡◌, ◌+◌, ◌*◌, ◌^◌};
 
 use kinds::{LongRest, PacketRegion, Pair, Prefix, PrefixRow, RangeRow, SetRow};
 use std::fmt;
+use std::net::Ipv4Addr;
 
 // The regions of packets, and what they are made again from.
 pub type Packets = PacketRegion<Prefix, LongRest>;
@@ -110,17 +111,6 @@ pub fn packets(interfaces: u32, from: PrefixRow, to: PrefixRow, service: Service
     }
 }
 
-// An address as it is printed: a.b.c.d.
-#[derive(Clone, Copy)]
-struct Dotted(u32);
-
-impl fmt::Display for Dotted {
-    fn fmt<W: fmt::Write>(&self, f: &mut fmt::Formatter<W>) -> fmt::Result {
-        let [a, b, c, d] = self.0.to_be_bytes();
-        write!(f, "{a}.{b}.{c}.{d}")
-    }
-}
-
 // A packet as it is printed.
 #[derive(Clone, Copy)]
 pub struct Shown(pub Packet);
@@ -130,8 +120,8 @@ impl fmt::Display for Shown {
         let interface = self.0.left;
         let addresses = self.0.right;
         let ports = addresses.right.right;
-        let from = Dotted(addresses.left);
-        let to = Dotted(addresses.right.left);
+        let from = Ipv4Addr::from(addresses.left);
+        let to = Ipv4Addr::from(addresses.right.left);
         let from_port = ports.left;
         let to_port = ports.right.left;
         let protocol = ports.right.right;

@@ -1,7 +1,6 @@
 // What is asked of the office's list.
 ghost use Rattle.std.specs.Prelude.{◌≡◌};
 ghost use Rattle.list_audit.specs.Actions.{number_of};
-ghost use Rattle.search.specs.declared.list.Outcome.TheVariants.{Of, Unmatched};
 ghost use Rattle.search.specs.declared.list.Wish.TheVariants.{Is, IsNot};
 
 use crate::packets::{
@@ -12,7 +11,7 @@ use crate::rules::{
     office_net, server_net, time_host, web_host,
 };
 use kinds::{Kind, long_addresses, long_rest, whole_packets};
-use search::{Outcome, Wish};
+use search::Wish;
 
 // A question: it is broken by a packet of these with such a match, and kept where there is none.
 #[derive(Clone, Copy)]
@@ -24,34 +23,34 @@ pub struct Question {
 
 // All these packets are accepted.
 fn reaches(words: &'static str, packets: PacketsRow) -> Question
-    ensures { (result.packets ≡ packets) × (result.breaks ≡ IsNot (Of (number_of Action.Accept))) }
+    ensures { (result.packets ≡ packets) × (result.breaks ≡ IsNot (Some (number_of Action.Accept))) }
 {
     Question {
         words,
         packets,
-        breaks: Wish::IsNot(Outcome::Of(Action::Accept.number())),
+        breaks: Wish::IsNot(Some(Action::Accept.into())),
     }
 }
 
 // None of these packets is accepted.
 fn never(words: &'static str, packets: PacketsRow) -> Question
-    ensures { (result.packets ≡ packets) × (result.breaks ≡ Is (Of (number_of Action.Accept))) }
+    ensures { (result.packets ≡ packets) × (result.breaks ≡ Is (Some (number_of Action.Accept))) }
 {
     Question {
         words,
         packets,
-        breaks: Wish::Is(Outcome::Of(Action::Accept.number())),
+        breaks: Wish::Is(Some(Action::Accept.into())),
     }
 }
 
 // Some rule decides each packet of the whole.
 pub fn complete() -> Question
-    ensures { result.breaks ≡ Is Unmatched }
+    ensures { result.breaks ≡ Is None }
 {
     Question {
         words: "every packet is decided by a rule",
         packets: whole_packets(long_addresses(), long_rest()).row(),
-        breaks: Wish::Is(Outcome::Unmatched),
+        breaks: Wish::Is(None),
     }
 }
 

@@ -3,7 +3,7 @@ use crate::audit::{ask, read_all};
 use crate::packets::{Packet, Packets, PacketsRow, Shown};
 use crate::questions::{Question, complete, house_questions, street_questions};
 use crate::rules::{Action, RULES, office_rules};
-use search::{Entry, Found, Frame, Match};
+use search::{Entry, Found, Frame};
 use std::fmt;
 
 // A packet that breaks a question, with the rule that decides it, as it is printed.
@@ -13,17 +13,13 @@ struct Breach(Found<Packet>);
 impl fmt::Display for Breach {
     fn fmt<W: fmt::Write>(&self, f: &mut fmt::Formatter<W>) -> fmt::Result {
         let packet = Shown(self.0.value);
-        match self.0.decided {
-            Match::Unmatched => write!(f, "{packet} (no rule)"),
-            Match::First { position, outcome } => {
-                let rule = position.saturating_add(1);
-                let action = match Action::with_number(outcome) {
-                    Some(Action::Accept) => "accept",
-                    Some(Action::Discard) => "discard",
-                    None => "no action",
-                };
-                write!(f, "{packet} (rule {rule}: {action})")
-            }
+        let Some(decided) = self.0.decided else {
+            return write!(f, "{packet} (no rule)");
+        };
+        let rule = decided.position.saturating_add(1);
+        match Action::try_from(decided.outcome) {
+            Ok(action) => write!(f, "{packet} (rule {rule}: {action})"),
+            Err(unknown) => write!(f, "{packet} (rule {rule}: {unknown})"),
         }
     }
 }
@@ -32,7 +28,7 @@ impl fmt::Display for Breach {
 const FRAMES: usize = RULES + 1;
 
 // What was asked so far.
-#[derive(Clone, Copy)]
+#[derive(Clone, Copy, Default)]
 struct Tally {
     asked: usize,
     broken: usize,
@@ -65,10 +61,7 @@ fn ask_all(
 pub(crate) fn report(rt: &impl Print) -> anyhow::Result<()> {
     let rules = office_rules();
     let read = read_all::<Packets>(&rules)?;
-    let mut tally = Tally {
-        asked: 0,
-        broken: 0,
-    };
+    let mut tally = Tally::default();
     let mut frames = [Frame {
         row: complete().packets,
         position: 0,

@@ -1,42 +1,68 @@
 // The rule list of a small office.
-ghost use Rattle.std.specs.Prelude.{◌≡◌, ◌+◌, ◌*◌, ◌^◌, MatchOption, ◌≢◌};
-ghost use Rattle.list_audit.specs.Actions.{number_of};
+ghost use Rattle.std.specs.Prelude.{◌≡◌, ◌+◌, ◌*◌, ◌^◌};
+ghost use Rattle.list_audit.specs.Actions.{Decodes, number_of};
 
 use crate::packets::{
     PacketsRow, Service, all_services, anywhere, host, ip, net, packets, tcp, udp_both,
 };
 use kinds::PrefixRow;
 use search::Entry;
+use std::error::Error;
+use std::fmt;
 
 // What a rule does with a packet.
-#[derive(Clone, Copy)]
+#[derive(Clone, Copy, Debug, PartialEq)]
 pub enum Action {
     Accept,
     Discard,
 }
 
-impl Action {
-    // The outcome number of the action.
-    pub fn number(self) -> u32
-        ensures { result ≡ number_of self }
-    {
-        match self {
+// The outcome number of the action.
+impl From<Action> for u32 {
+    ghost from_gives = { λ action number. number ≡ number_of action };
+
+    fn from(action: Action) -> u32 {
+        match action {
             Action::Accept => 1,
             Action::Discard => 0,
         }
     }
+}
 
-    // The action with this outcome number, if there is one.
-    pub fn with_number(number: u32) -> Option<Action>
-        ensures { MatchOption result ((a : Action) → number_of a ≢ number) (λ a. number_of a ≡ number) }
-    {
+// An outcome number that no action has.
+#[derive(Clone, Copy, Debug, PartialEq)]
+pub struct UnknownAction(pub u32);
+
+impl TryFrom<u32> for Action {
+    type Error = UnknownAction;
+
+    ghost try_from_gives = { Decodes };
+
+    fn try_from(number: u32) -> Result<Action, UnknownAction> {
         match number {
-            1 => Some(Action::Accept),
-            0 => Some(Action::Discard),
-            _ => None,
+            1 => Ok(Action::Accept),
+            0 => Ok(Action::Discard),
+            _ => Err(UnknownAction(number)),
         }
     }
 }
+
+impl fmt::Display for Action {
+    fn fmt<W: fmt::Write>(&self, f: &mut fmt::Formatter<W>) -> fmt::Result {
+        f.write_str(match self {
+            Action::Accept => "accept",
+            Action::Discard => "discard",
+        })
+    }
+}
+
+impl fmt::Display for UnknownAction {
+    fn fmt<W: fmt::Write>(&self, f: &mut fmt::Formatter<W>) -> fmt::Result {
+        f.write_str("no action")
+    }
+}
+
+impl Error for UnknownAction {}
 
 // The interfaces, each as the set of it alone.
 pub const STREET: u32 = 1 << 0;
@@ -109,7 +135,7 @@ fn rule(action: Action, packets: PacketsRow) -> Entry<PacketsRow>
 {
     Entry {
         row: packets,
-        outcome: action.number(),
+        outcome: action.into(),
     }
 }
 

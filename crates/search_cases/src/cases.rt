@@ -4,11 +4,12 @@ ghost use Rattle.search.specs.List.{Meets};
 
 use crate::judged::{Judged, Place};
 use crate::random::Random;
-use search::{Entry, Found, Frame, Match, Outcome, TooShort, Wish, outcome_of, search};
+use search::{Entry, Found, Frame, Match, TooShort, Wish, outcome_of, search};
 use std::alloc::{AllocError, Global};
+use std::fmt;
 
 // What was done, and how often an answer was wrong.
-#[derive(Clone, Copy)]
+#[derive(Clone, Copy, Default)]
 pub struct Tally {
     pub lists: u32,
     pub questions: u32,
@@ -17,19 +18,23 @@ pub struct Tally {
     pub wrong: u32,
 }
 
-impl Tally {
-    fn new() -> Tally
-        ensures { result ≡ record { lists = 0; questions = 0; found = 0; none = 0; wrong = 0 } }
-    {
-        Tally {
-            lists: 0,
-            questions: 0,
-            found: 0,
-            none: 0,
-            wrong: 0,
-        }
+impl fmt::Display for Tally {
+    fn fmt<W: fmt::Write>(&self, f: &mut fmt::Formatter<W>) -> fmt::Result {
+        let Tally {
+            lists,
+            questions,
+            found,
+            none,
+            wrong,
+        } = *self;
+        write!(
+            f,
+            "{lists} lists, {questions} questions, {found} found, {none} none, wrong {wrong}"
+        )
     }
+}
 
+impl Tally {
     // Counts an answer that is not right.
     fn hold(&mut self, right: bool)
         ensures kept { right ≡ true → self.new ≡ self.old }
@@ -48,44 +53,26 @@ const MOST_ENTRIES: u32 = 8;
 const QUESTIONS: u32 = 4;
 
 // The first entry that has the value by its numbers.
-fn judge<K: Judged>(list: &[Entry<K::Row>], value: K::Value) -> Match {
-    for (position, entry) in list.iter().enumerate() {
-        if K::row_has_number(entry.row, value) {
-            return Match::First {
-                position,
-                outcome: entry.outcome,
-            };
-        }
-    }
-    Match::Unmatched
+fn judge<K: Judged>(list: &[Entry<K::Row>], value: K::Value) -> Option<Match> {
+    list.iter()
+        .enumerate()
+        .find(|(_, entry)| K::row_has_number(entry.row, value))
+        .map(|(position, entry)| Match {
+            position,
+            outcome: entry.outcome,
+        })
 }
 
-// Whether a match is as wished.
-fn is_wished(wish: Wish, found: Match) -> bool
+// Whether a match is as wished, told case by case: it judges `Wish::met_by`, so does not call it.
+fn is_wished(wish: Wish, found: Option<Match>) -> bool
     ensures { Decides result (Meets wish found) }
 {
     match (wish, found) {
-        (Wish::Is(Outcome::Of(wished)), Match::First { outcome, .. }) => outcome == wished,
-        (Wish::IsNot(Outcome::Of(unwished)), Match::First { outcome, .. }) => outcome != unwished,
-        (Wish::Is(Outcome::Unmatched), Match::Unmatched) => true,
-        (Wish::IsNot(Outcome::Of(_)), Match::Unmatched) => true,
-        (Wish::IsNot(Outcome::Unmatched), Match::First { .. }) => true,
-        _ => false,
-    }
-}
-
-fn same_match(a: Match, b: Match) -> bool
-    ensures { Decides result (a ≡ b) }
-{
-    match (a, b) {
-        (
-            Match::First { position, outcome },
-            Match::First {
-                position: other_position,
-                outcome: other_outcome,
-            },
-        ) => position == other_position && outcome == other_outcome,
-        (Match::Unmatched, Match::Unmatched) => true,
+        (Wish::Is(Some(wished)), Some(entry)) => entry.outcome == wished,
+        (Wish::IsNot(Some(unwished)), Some(entry)) => entry.outcome != unwished,
+        (Wish::Is(None), None) => true,
+        (Wish::IsNot(Some(_)), None) => true,
+        (Wish::IsNot(None), Some(_)) => true,
         _ => false,
     }
 }
@@ -93,24 +80,23 @@ fn same_match(a: Match, b: Match) -> bool
 fn draw_wish(random: &mut Random) -> Wish {
     let outcome = random.below(OUTCOMES);
     match random.below(4) {
-        0 => Wish::Is(Outcome::Of(outcome)),
-        1 => Wish::IsNot(Outcome::Of(outcome)),
-        2 => Wish::Is(Outcome::Unmatched),
-        _ => Wish::IsNot(Outcome::Unmatched),
+        0 => Wish::Is(Some(outcome)),
+        1 => Wish::IsNot(Some(outcome)),
+        2 => Wish::Is(None),
+        _ => Wish::IsNot(None),
     }
 }
 
 fn draw_list<K: Judged>(heap: Global, random: &mut Random) -> Result<Vec<Entry<K::Row>>, AllocError>
     ensures { IfOk result (λ list. vec_len list ≤ 8) }
 {
-    let mut list = Vec::new(heap);
     let count = random.below(MOST_ENTRIES + 1);
-    for _position in 0..count {
-        let row = K::draw(random, Place::Entry);
-        let outcome = random.below(OUTCOMES);
-        list.push(Entry { row, outcome })?;
-    }
-    Ok(list)
+    (0..count)
+        .map(|_| Entry {
+            row: K::draw(random, Place::Entry),
+            outcome: random.below(OUTCOMES),
+        })
+        .collect(heap)
 }
 
 // Whether a value of the row, among these, has a match as wished.
@@ -120,12 +106,9 @@ fn any_wished<K: Judged>(
     wish: Wish,
     values: &[K::Value],
 ) -> bool {
-    for value in values {
-        if K::row_has_number(target, *value) && is_wished(wish, judge::<K>(list, *value)) {
-            return true;
-        }
-    }
-    false
+    values.iter().any(|value| {
+        K::row_has_number(target, *value) && is_wished(wish, judge::<K>(list, *value))
+    })
 }
 
 // Whether a found value is of the target, with the match that the judge gives, as wished.
@@ -136,9 +119,7 @@ fn is_witness<K: Judged>(
     found: Found<K::Value>,
 ) -> bool {
     let match_of = judge::<K>(list, found.value);
-    K::row_has_number(target, found.value)
-        && same_match(match_of, found.decided)
-        && is_wished(wish, match_of)
+    K::row_has_number(target, found.value) && match_of == found.decided && is_wished(wish, match_of)
 }
 
 // One question: with a frame too few the search has to say so, and with enough to answer rightly.
@@ -161,10 +142,7 @@ fn ask<K: Judged>(
         tally.hold(false);
         return Ok(());
     };
-    let mut frames = Vec::new(heap);
-    for _ in list {
-        frames.push(junk)?;
-    }
+    let mut frames = vec![in heap; junk; list.len()]?;
     tally.hold(search(list, target, wish, frames.as_mut_slice()).is_err());
     frames.push(junk)?;
     match search(list, target, wish, frames.as_mut_slice()) {
@@ -184,14 +162,14 @@ fn ask<K: Judged>(
 // Makes so many lists, looks up every small value in each, and asks a few questions of it.
 pub(crate) fn run<K: Judged>(heap: Global, seed: u32, lists: u32) -> Result<Tally, AllocError> {
     let mut random = Random(seed);
-    let mut tally = Tally::new();
+    let mut tally = Tally::default();
     let values = K::small_values(heap)?;
     for _ in 0..lists {
         let list = draw_list::<K>(heap, &mut random)?;
         tally.lists = tally.lists.saturating_add(1);
         for value in values.iter() {
             let found = outcome_of::<K>(&list, *value);
-            tally.hold(same_match(found, judge::<K>(&list, *value)));
+            tally.hold(found == judge::<K>(&list, *value));
         }
         for _ in 0..QUESTIONS {
             ask::<K>(heap, &mut random, &list, &values, &mut tally)?;

@@ -6,31 +6,17 @@ mod judged;
 mod random;
 
 use anyhow::anyhow;
-use cases::{Tally, run};
+use cases::run;
 use kinds::{FlatRest, LongRest, PacketRegion, Prefix, Range};
-use std::io;
 
 const LISTS: u32 = 3_000;
-
-fn show(rt: &impl Print, form: &str, tally: Tally) -> io::Result<()> {
-    let Tally {
-        lists,
-        questions,
-        found,
-        none,
-        wrong,
-    } = tally;
-    println!(rt;
-        "{form}: {lists} lists, {questions} questions, {found} found, {none} none, wrong {wrong}"
-    )
-}
 
 fn main(rt: HostRuntime) -> anyhow::Result<()> {
     let heap = rt.alloc();
     let long = run::<PacketRegion<Prefix, LongRest>>(heap, 20_231, LISTS)?;
-    show(&rt, "long packets", long)?;
+    println!(&rt; "long packets: {long}")?;
     let flat = run::<PacketRegion<Range, FlatRest>>(heap, 4_711, LISTS)?;
-    show(&rt, "flat packets", flat)?;
+    println!(&rt; "flat packets: {flat}")?;
     if long.wrong == 0 && flat.wrong == 0 {
         Ok(())
     } else {

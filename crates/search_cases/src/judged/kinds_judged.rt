@@ -37,15 +37,11 @@ impl Judged for Range {
     }
 
     fn row_has_number(row: RangeRow, value: u32) -> bool {
-        row.lo <= value && value <= row.hi
+        (row.lo..=row.hi).contains(&value)
     }
 
     fn small_values(heap: Global) -> Result<Vec<u32>, AllocError> {
-        let mut values = Vec::new(heap);
-        for value in 0..NUMBERS {
-            values.push(value)?;
-        }
-        Ok(values)
+        (0..NUMBERS).collect(heap)
     }
 }
 
@@ -86,11 +82,7 @@ impl Judged for Prefix {
     }
 
     fn small_values(heap: Global) -> Result<Vec<u32>, AllocError> {
-        let mut values = Vec::new(heap);
-        for offset in 0..NUMBERS {
-            values.push(BASE | offset)?;
-        }
-        Ok(values)
+        (0..NUMBERS).map(|offset| BASE | offset).collect(heap)
     }
 }
 
@@ -110,11 +102,7 @@ impl Judged for Set {
     }
 
     fn small_values(heap: Global) -> Result<Vec<u8>, AllocError> {
-        let mut values = Vec::new(heap);
-        for value in 0..MEMBERS {
-            values.push(value)?;
-        }
-        Ok(values)
+        (0..MEMBERS).collect(heap)
     }
 }
 
@@ -133,15 +121,14 @@ impl<L: Judged, R: Judged> Judged for Pair<L, R> {
     fn small_values(heap: Global) -> Result<Vec<Pair<L::Value, R::Value>>, AllocError> {
         let lefts = L::small_values(heap)?;
         let rights = R::small_values(heap)?;
-        let mut values = Vec::new(heap);
-        for left in lefts.iter() {
-            for right in rights.iter() {
-                values.push(Pair {
+        lefts
+            .iter()
+            .flat_map(|left| {
+                rights.iter().map(|right| Pair {
                     left: *left,
                     right: *right,
-                })?;
-            }
-        }
-        Ok(values)
+                })
+            })
+            .collect(heap)
     }
 }

@@ -1,21 +1,19 @@
-use Rattle.std.proofs.Common.{◌≡◌, ℕ, sym, refl, ◌∙◌, arith}
-use Rattle.search.proofs.Positions.{nth_get_or, before_more, before_all}
+use Rattle.std.proofs.Common.{refl, rules}
+use Rattle.std.proofs.lemmas.Iterator.{YieldsList-from_slice, IsFirst-from_position}
+use Rattle.list_audit.specs.Asked.{Unread}
+use Rattle.list_audit.proofs.Firsts.{Not, first_from_position}
 use Rattle.list_audit.proofs.audit.read_all.Goals as goal
 
-pub returns-in_default : goal.returns-in_default
-returns-in_default g c = (
-  c.index-list-position.result,
-  record {
-    here = nth_get_or _ _ _ c.loop-position-test.true c.index-list-position.is;
-    fit = sym c.read.ensures ∙ c.in_default.is;
-    before = c.loop-position.invariant;
-  },
-)
+pub returns-in-Some : goal.returns-in-Some
+returns-in-Some g c =
+    let unread = Unread g.K.Kind.region in
+    let found = IsFirst-from_position _ _ c.position.result unread (Not unread c.args.list.now) c.position.ensures.ran (YieldsList-from_slice c.args.list.now c.iter.ensures.rest) (λ x q h. search rules) (λ x q h. search rules) in
+    let first = first_from_position unread c.args.list.now c.position.result found in
+    rw c.in-Some.is at first
 
-pub loop-position-preserved : goal.loop-position-preserved
-loop-position-preserved g c =
-    before_more _ _ _ c.index-list-position.result (nth_get_or _ _ _ c.loop-position-test.true c.index-list-position.is) c.loop-position.invariant
-    (λ none. let reads = sym c.read.ensures ∙ c.in-Some.is in let z : ◌≡◌ {A = ℕ} 0 1 = cc in omega arith)
-
-pub returns : goal.returns
-returns g c = (refl, before_all _ _ _ c.loop-position-test.false c.loop-position.invariant)
+pub returns-in-None : goal.returns-in-None
+returns-in-None g c =
+    let unread = Unread g.K.Kind.region in
+    let found = IsFirst-from_position _ _ c.position.result unread (Not unread c.args.list.now) c.position.ensures.ran (YieldsList-from_slice c.args.list.now c.iter.ensures.rest) (λ x q h. search rules) (λ x q h. search rules) in
+    let first = first_from_position unread c.args.list.now c.position.result found in
+    (refl, rw c.in-None.is at first)
