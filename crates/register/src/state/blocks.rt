@@ -2,20 +2,24 @@
 ghost use Rattle.std.specs.Prelude.{◌≡◌, ◌<◌, ◌≤◌, ◌⊎◌, List, map, length, take};
 ghost use Rattle.model.specs.Shape.{Domain};
 ghost use Rattle.model.specs.Tree.{Tree, Block};
+ghost use Rattle.model.specs.declared.answers.Answer.TheVariants.{Done};
 ghost use Rattle.model.specs.declared.answers.Refusal.TheVariants.{NoSuch};
 ghost use Rattle.model.specs.declared.calls.Call.TheVariants.{Give, Take};
 ghost use Rattle.tree.specs.Table.{shape_of};
 ghost use Rattle.checks.specs.Addresses.{OwnedApart};
 ghost use Rattle.checks.specs.Rows.{block_entry, property_row};
-ghost use Rattle.register.specs.Blocks.{ApartFrom, AllPlaced, EditsBlocks};
+ghost use Rattle.register.specs.Blocks.{ApartFrom, AllPlaced};
+ghost use Rattle.register.specs.Memory.{SameMemory, lent_by, tables_of};
 ghost use Rattle.register.specs.Order.{Refuses};
+ghost use Rattle.register.specs.Picture.{Tried};
 
 use super::Register;
-use super::refusals::{check_inside, check_lengths, check_number, check_room};
+use super::refusals::{check_inside, check_number, check_room};
+use crate::memory::Memory;
 use crate::slots::{read_slot, write_slot};
 use checks::{BlockRow, PropertyRow, block_row};
 use kinds::Kind;
-use model::{Lent, MAX_BLOCKS, Refusal};
+use model::{MAX_BLOCKS, Refusal};
 use search::Frame;
 use tables::{insert_row, remove_row};
 use tree::TreeTable;
@@ -74,26 +78,25 @@ impl<A: Kind, R: Kind> Register<A, R> {
     // Gives a block of addresses to a domain.
     pub(crate) fn try_give(
         &mut self,
-        lent: Lent,
-        blocks: &mut [BlockRow<A::Row>],
-        properties: &[PropertyRow<A::Row, R::Row>],
-        frames: &mut [Frame<A::Row>],
+        memory: &mut Memory<'_, A::Row, R::Row>,
         domain: usize,
         region: A,
     ) -> Result<(), Refusal<A::Value, R::Value>>
-        requires blocks { lent.blocks ≡ length blocks.old }
-        requires properties { lent.properties ≡ length properties.now }
-        requires frames { lent.address_frames ≡ length frames.old }
-        ensures { EditsBlocks A.Kind.holds R.Kind.holds A.Kind.plain R.Kind.plain self.old blocks.old properties.now (Give domain region) lent result self.new blocks.new }
+        ensures does { Tried A.Kind R.Kind self.old (tables_of memory.old) (Give domain region) (lent_by memory.old) (λ _. Done) result self.new (tables_of memory.new) }
+        ensures same { SameMemory memory.old memory.new }
     {
-        check_lengths(lent)?;
+        memory.check_lengths()?;
         check_owner(&self.tree, domain)?;
         let used = self.block_count;
         check_room(used, MAX_BLOCKS)?;
         check_inside(region, self.addresses)?;
+        let row = block_row(region, domain as u32);
+        let blocks = &mut *memory.blocks;
         check_apart(blocks, used, region)?;
+        let properties = &mut *memory.properties;
+        let frames = &mut *memory.address_frames;
         let old = read_slot(blocks, used);
-        write_slot(blocks, used, block_row(region, domain as u32));
+        write_slot(blocks, used, row);
         match check_placed::<A, R>(blocks, used + 1, properties, self.property_count, frames) {
             Ok(()) => {
                 self.block_count = used + 1;
@@ -109,20 +112,18 @@ impl<A: Kind, R: Kind> Register<A, R> {
     // Takes a block from its domain.
     pub(crate) fn try_take(
         &mut self,
-        lent: Lent,
-        blocks: &mut [BlockRow<A::Row>],
-        properties: &[PropertyRow<A::Row, R::Row>],
-        frames: &mut [Frame<A::Row>],
+        memory: &mut Memory<'_, A::Row, R::Row>,
         block: usize,
     ) -> Result<(), Refusal<A::Value, R::Value>>
-        requires blocks { lent.blocks ≡ length blocks.old }
-        requires properties { lent.properties ≡ length properties.now }
-        requires frames { lent.address_frames ≡ length frames.old }
-        ensures { EditsBlocks A.Kind.holds R.Kind.holds A.Kind.plain R.Kind.plain self.old blocks.old properties.now (Take block) lent result self.new blocks.new }
+        ensures does { Tried A.Kind R.Kind self.old (tables_of memory.old) (Take block) (lent_by memory.old) (λ _. Done) result self.new (tables_of memory.new) }
+        ensures same { SameMemory memory.old memory.new }
     {
-        check_lengths(lent)?;
+        memory.check_lengths()?;
         let used = self.block_count;
         check_number(block, used)?;
+        let blocks = &mut *memory.blocks;
+        let properties = &mut *memory.properties;
+        let frames = &mut *memory.address_frames;
         let old = read_slot(blocks, block);
         remove_row(blocks, used, block);
         match check_placed::<A, R>(blocks, used - 1, properties, self.property_count, frames) {

@@ -1,5 +1,5 @@
 // The checks of a property that is offered, by stand or by ask.
-ghost use Rattle.std.specs.Prelude.{◌≡◌, ◌⊎◌, map, length};
+ghost use Rattle.std.specs.Prelude.{◌≡◌, ◌⊎◌, map, length, take};
 ghost use Rattle.checks.specs.Addresses.{OwnedApart};
 ghost use Rattle.checks.specs.Rows.{block_entry};
 ghost use Rattle.kinds.specs.Words.{Inside};
@@ -16,6 +16,7 @@ use checks::{BlockRow, find_foreign};
 use kinds::Kind;
 use model::{Decision, Property, Refusal};
 use search::{Frame, lies_inside};
+use tables::used_rows;
 use verdicts::source_astray;
 
 // 8: every address of the source is of its domain. The source of discard is free.
@@ -99,18 +100,19 @@ impl<A: Kind, R: Kind> Register<A, R> {
         }
     }
 
-    // 5, 7, 8 and 9, in this order.
+    // 5, 7, 8 and 9, in this order, over the used blocks.
     pub(crate) fn check_offer(
         &self,
         blocks: &[BlockRow<A::Row>],
         frames: &mut [Frame<A::Row>],
         property: Property<A, R>,
     ) -> Result<(), Refusal<A::Value, R::Value>>
-        ensures { (t : Tree A R) → self.now.addresses ≡ t.addresses → self.now.rests ≡ t.rests → shape_of self.now.tree ≡ t.shape → OwnedApart A.Kind.holds t.blocks → blocks.now ≡ map (block_entry A.Kind.plain) t.blocks → OfferChecked A.Kind.holds R.Kind.holds t property (length frames.old) result }
+        ensures { (t : Tree A R) → self.now.addresses ≡ t.addresses → self.now.rests ≡ t.rests → shape_of self.now.tree ≡ t.shape → OwnedApart A.Kind.holds t.blocks → take self.now.block_count blocks.now ≡ map (block_entry A.Kind.plain) t.blocks → OfferChecked A.Kind.holds R.Kind.holds t property (length frames.old) result }
     {
         self.check_property_inside(property)?;
         self.check_joined(property)?;
-        check_source(blocks, frames, property)?;
-        check_destination(blocks, frames, property)
+        let used = used_rows(blocks, self.block_count);
+        check_source(used, frames, property)?;
+        check_destination(used, frames, property)
     }
 }

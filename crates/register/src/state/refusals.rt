@@ -2,35 +2,16 @@
 ghost use Rattle.std.specs.Prelude.{◌≡◌, suc, ◌+◌, ◌<◌, ◌≤◌, ◌⊎◌, length};
 ghost use Rattle.kinds.specs.Words.{Inside};
 ghost use Rattle.model.specs.Limits.{max_domains, max_interfaces, max_rules};
-ghost use Rattle.model.specs.Refusals.{IsTooShort};
 ghost use Rattle.model.specs.Shape.{Domain};
-ghost use Rattle.model.specs.declared.answers.Refusal.TheVariants.{TooShort, NoSuch, BadInterface, Full, Outside};
+ghost use Rattle.model.specs.declared.answers.Refusal.TheVariants.{NoSuch, BadInterface, Full, Outside};
 ghost use Rattle.tree.specs.Table.{shape_of};
 ghost use Rattle.register.specs.Order.{Refuses};
 ghost use Rattle.register.specs.Rows.{rule_count};
 
 use super::Register;
 use kinds::Kind;
-use model::{
-    Lent, MAX_BLOCKS, MAX_DOMAINS, MAX_INTERFACES, MAX_PROPERTIES, MAX_RULES, MIN_ADDRESS_FRAMES,
-    MIN_PACKET_FRAMES, Refusal,
-};
+use model::{MAX_DOMAINS, MAX_INTERFACES, MAX_RULES, Refusal};
 use search::lies_inside;
-
-// 1: the slices lent are long enough.
-pub(crate) fn check_lengths<V, W>(lent: Lent) -> Result<(), Refusal<V, W>>
-    ensures { Refuses result TooShort (IsTooShort lent) }
-{
-    if lent.rules < MAX_RULES
-        || lent.blocks < MAX_BLOCKS
-        || lent.properties < MAX_PROPERTIES
-        || lent.packet_frames < MIN_PACKET_FRAMES
-        || lent.address_frames < MIN_ADDRESS_FRAMES
-    {
-        return Err(Refusal::TooShort);
-    }
-    Ok(())
-}
 
 // 2: there is something with this number, of those that there are.
 pub(crate) fn check_number<V, W>(number: usize, count: usize) -> Result<(), Refusal<V, W>>
