@@ -14,7 +14,7 @@ use Rattle.verdicts.specs.Passage.{passage_answer}
 use Rattle.verdicts.specs.declared.passage.Passage.{Passage}
 use Rattle.verdicts.specs.declared.passage.Passage.TheVariants.{Passed, Stopped}
 use Rattle.verdicts.specs.declared.route.Break.{Break}
-use Rattle.register.specs.Picture.{Pictures, Turns, Tried, answered, asked_as}
+use Rattle.register.specs.Picture.{Pictures, Turns, Tried, Answers, answered, asked_as}
 use Rattle.register.specs.Promise.{Tells, Promise}
 use Rattle.register.specs.Rows.{Stored, stored_after}
 use Rattle.register.specs.declared.state.Register.{Register}
@@ -51,6 +51,8 @@ module _ {A R V W X Y : Type 0} (ka : Ghosts A V X) (kr : Ghosts R W Y) (tell : 
     short = λ e. let is = tried.short e in cc;
   }
 
-  -- the promise of a call, by what its inner function answered
-  pub promised : {B : Type 0} (say : B → Answer V W) → ((x : B) → refused (say x) ≡ None) → (r : Result B (Refusal V W)) (a : Answer V W) → a ≡ answered say r → Tried ka kr g s c l say r h z → Promise ka kr g s c l a h z
-  promised say plainly r a is tried = subst (λ b. Promise ka kr g s c l b h z) (sym is) (tried_promise say r plainly tried)
+  -- the promise of a call, by what its inner function answered, and what is said of that
+  pub promised : {B : Type 0} (say : B → Answer V W) → ((x : B) → refused (say x) ≡ None) → {says : B → Answer V W → Type 0} → ((x : B) (a : Answer V W) → says x a → a ≡ say x)
+      → (r : Result B (Refusal V W)) (a : Answer V W) → Answers says r a → Tried ka kr g s c l say r h z → Promise ka kr g s c l a h z
+  promised say plainly means (Ok x) a is tried = subst (λ b. Promise ka kr g s c l b h z) (sym (means x a is)) (tried_promise say (Ok x) plainly tried)
+  promised say plainly means (Err e) a is tried = subst (λ b. Promise ka kr g s c l b h z) (sym is) (tried_promise say (Err e) plainly tried)

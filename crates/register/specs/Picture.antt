@@ -35,6 +35,11 @@ abbrev pub answered : {B V W : Type 0} → (B → Answer V W) → Result B (Refu
 answered say (Ok x) = say x
 answered say (Err e) = Refused e
 
+-- the same, where `say x a` says that a is the answer to x
+abbrev pub Answers : {B V W : Type 0} → (B → Answer V W → Type 0) → Result B (Refusal V W) → Answer V W → Type 0
+Answers say (Ok x) a = say x a
+Answers say (Err e) a = a ≡ Refused e
+
 -- the answer of attach, with both new numbers
 abbrev pub attached_as : {V W : Type 0} → ℕ × ℕ → Answer V W
 attached_as made = Attached made.0 made.1

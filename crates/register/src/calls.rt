@@ -4,7 +4,7 @@ ghost use Rattle.model.specs.declared.calls.Call.TheVariants.{Attach, Branch, Gi
 ghost use Rattle.register.specs.Memory.{SameMemory, lent_by, tables_of};
 ghost use Rattle.register.specs.Promise.{Promise};
 
-use crate::answers::{asked, attached, branched, done, sent};
+use crate::answers::{answer, asked, sent};
 use crate::memory::Memory;
 use crate::state::Register;
 use kinds::Kind;
@@ -24,7 +24,10 @@ impl<A: Kind, R: Kind> Register<A, R> {
         ensures promise { Promise A.Kind R.Kind self.old (tables_of memory.old) (Attach domain upper lower decision) (lent_by memory.old) result self.new (tables_of memory.new) }
         ensures same { SameMemory memory.old memory.new }
     {
-        attached(self.try_attach(memory, domain, upper, lower, decision))
+        answer(
+            self.try_attach(memory, domain, upper, lower, decision),
+            |(firewall, domain)| Answer::Attached { firewall, domain },
+        )
     }
 
     // Hangs the next domain below a firewall; its number.
@@ -36,7 +39,10 @@ impl<A: Kind, R: Kind> Register<A, R> {
     ) -> Answer<A::Value, R::Value>
         ensures { Promise A.Kind R.Kind self.old (tables_of memory.now) (Branch firewall interface) (lent_by memory.now) result self.new (tables_of memory.now) }
     {
-        branched(self.try_branch(memory, firewall, interface))
+        answer(
+            self.try_branch(memory, firewall, interface),
+            |domain| Answer::Branched { domain },
+        )
     }
 
     // Gives a block of addresses to a domain.
@@ -49,7 +55,7 @@ impl<A: Kind, R: Kind> Register<A, R> {
         ensures promise { Promise A.Kind R.Kind self.old (tables_of memory.old) (Give domain region) (lent_by memory.old) result self.new (tables_of memory.new) }
         ensures same { SameMemory memory.old memory.new }
     {
-        done(self.try_give(memory, domain, region))
+        answer(self.try_give(memory, domain, region), |()| Answer::Done)
     }
 
     // Takes a block back.
@@ -61,7 +67,7 @@ impl<A: Kind, R: Kind> Register<A, R> {
         ensures promise { Promise A.Kind R.Kind self.old (tables_of memory.old) (Take block) (lent_by memory.old) result self.new (tables_of memory.new) }
         ensures same { SameMemory memory.old memory.new }
     {
-        done(self.try_take(memory, block))
+        answer(self.try_take(memory, block), |()| Answer::Done)
     }
 
     // Inserts a rule into a firewall's list.
@@ -75,7 +81,10 @@ impl<A: Kind, R: Kind> Register<A, R> {
         ensures promise { Promise A.Kind R.Kind self.old (tables_of memory.old) (Place firewall position rule) (lent_by memory.old) result self.new (tables_of memory.new) }
         ensures same { SameMemory memory.old memory.new }
     {
-        done(self.try_place(memory, firewall, position, rule))
+        answer(
+            self.try_place(memory, firewall, position, rule),
+            |()| Answer::Done,
+        )
     }
 
     // Replaces a rule of a firewall's list.
@@ -89,7 +98,10 @@ impl<A: Kind, R: Kind> Register<A, R> {
         ensures promise { Promise A.Kind R.Kind self.now (tables_of memory.old) (Alter firewall position rule) (lent_by memory.old) result self.now (tables_of memory.new) }
         ensures same { SameMemory memory.old memory.new }
     {
-        done(self.try_alter(memory, firewall, position, rule))
+        answer(
+            self.try_alter(memory, firewall, position, rule),
+            |()| Answer::Done,
+        )
     }
 
     // Removes a rule from a firewall's list.
@@ -102,7 +114,7 @@ impl<A: Kind, R: Kind> Register<A, R> {
         ensures promise { Promise A.Kind R.Kind self.old (tables_of memory.old) (Lift firewall position) (lent_by memory.old) result self.new (tables_of memory.new) }
         ensures same { SameMemory memory.old memory.new }
     {
-        done(self.try_lift(memory, firewall, position))
+        answer(self.try_lift(memory, firewall, position), |()| Answer::Done)
     }
 
     // Declares a property standing.
@@ -114,7 +126,7 @@ impl<A: Kind, R: Kind> Register<A, R> {
         ensures promise { Promise A.Kind R.Kind self.old (tables_of memory.old) (Stand property) (lent_by memory.old) result self.new (tables_of memory.new) }
         ensures same { SameMemory memory.old memory.new }
     {
-        done(self.try_stand(memory, property))
+        answer(self.try_stand(memory, property), |()| Answer::Done)
     }
 
     // Takes a standing property away.
@@ -126,7 +138,7 @@ impl<A: Kind, R: Kind> Register<A, R> {
         ensures promise { Promise A.Kind R.Kind self.old (tables_of memory.old) (Withdraw property) (lent_by memory.old) result self.new (tables_of memory.new) }
         ensures same { SameMemory memory.old memory.new }
     {
-        done(self.try_withdraw(memory, property))
+        answer(self.try_withdraw(memory, property), |()| Answer::Done)
     }
 
     // Whether a property is kept, or where and by which packet it is broken.
@@ -138,7 +150,7 @@ impl<A: Kind, R: Kind> Register<A, R> {
         ensures promise { Promise A.Kind R.Kind self.now (tables_of memory.old) (Ask property) (lent_by memory.old) result self.now (tables_of memory.new) }
         ensures same { SameMemory memory.old memory.new }
     {
-        asked(self.try_ask(memory, property))
+        answer(self.try_ask(memory, property), asked)
     }
 
     // What becomes of a packet on its way.
@@ -149,6 +161,7 @@ impl<A: Kind, R: Kind> Register<A, R> {
     ) -> Answer<A::Value, R::Value>
         ensures { Promise A.Kind R.Kind self.now (tables_of memory.now) (Send header) (lent_by memory.now) result self.now (tables_of memory.now) }
     {
-        sent(self.try_send(memory, header))
+        // The name alone gets no proof, since nothing that `sent` takes names the kinds.
+        answer(self.try_send(memory, header), |passage| sent(passage))
     }
 }

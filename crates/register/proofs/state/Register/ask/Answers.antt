@@ -1,3 +1,4 @@
+use Rattle.std.proofs.Common.{rules}
 use Rattle.model.specs.declared.calls.Call.TheVariants.{Ask}
 use Rattle.register.specs.Picture.{asked_as}
 use Rattle.register.specs.Memory.{lent_by, tables_of}
@@ -8,5 +9,4 @@ pub returns-clause-promise : goal.returns-clause-promise
 returns-clause-promise g c =
     let m = c.args.memory.now in
     promised g.A.Kind g.R.Kind g.met.A.Kind.decided g.met.A.Kind.inhabited c.args.self.now c.args.self.now (tables_of m) _ (Ask c.args.property)
-    (lent_by m) asked_as asked_plain c.try_ask.result c.asked.result c.asked.ensures
-    c.try_ask.ensures.does
+    (lent_by m) asked_as asked_plain (λ x a is. search rules) c.try_ask.result c.answer.result c.answer.ensures c.try_ask.ensures.does

@@ -1,4 +1,4 @@
-use Rattle.std.proofs.Common.{refl}
+use Rattle.std.proofs.Common.{rules, refl}
 use Rattle.model.specs.declared.answers.Answer.TheVariants.{Branched}
 use Rattle.model.specs.declared.calls.Call.TheVariants.{Branch}
 use Rattle.register.specs.Memory.{lent_by, tables_of}
@@ -9,5 +9,4 @@ pub returns : goal.returns
 returns g c =
     let m = c.args.memory.now in
     promised g.A.Kind g.R.Kind g.met.A.Kind.decided g.met.A.Kind.inhabited c.args.self.now c.try_branch.new.self (tables_of m) _ (Branch c.args.firewall c.args.interface)
-    (lent_by m) Branched (λ x. refl) c.try_branch.result c.branched.result c.branched.ensures
-    c.try_branch.ensures
+    (lent_by m) Branched (λ x. refl) (λ x a is. search rules) c.try_branch.result c.answer.result c.answer.ensures c.try_branch.ensures

@@ -1,3 +1,4 @@
+use Rattle.std.proofs.Common.{rules}
 use Rattle.model.specs.declared.calls.Call.TheVariants.{Send}
 use Rattle.verdicts.specs.Passage.{passage_answer}
 use Rattle.register.specs.Memory.{lent_by, tables_of}
@@ -8,5 +9,4 @@ pub returns : goal.returns
 returns g c =
     let m = c.args.memory.now in
     promised g.A.Kind g.R.Kind g.met.A.Kind.decided g.met.A.Kind.inhabited c.args.self.now c.args.self.now (tables_of m) _ (Send c.args.header)
-    (lent_by m) passage_answer sent_plain c.try_send.result c.sent.result c.sent.ensures
-    c.try_send.ensures
+    (lent_by m) passage_answer sent_plain (λ x a is. search rules) c.try_send.result c.answer.result c.answer.ensures c.try_send.ensures

@@ -1,4 +1,4 @@
-use Rattle.std.proofs.Common.{refl}
+use Rattle.std.proofs.Common.{rules, refl}
 use Rattle.model.specs.declared.answers.Answer.TheVariants.{Done}
 use Rattle.model.specs.declared.calls.Call.TheVariants.{Withdraw}
 use Rattle.register.specs.Memory.{lent_by, tables_of}
@@ -9,5 +9,4 @@ pub returns-clause-promise : goal.returns-clause-promise
 returns-clause-promise g c =
     let m = c.args.memory.now in
     promised g.A.Kind g.R.Kind g.met.A.Kind.decided g.met.A.Kind.inhabited c.args.self.now c.try_withdraw.new.self (tables_of m) _ (Withdraw c.args.property)
-    (lent_by m) (λ _. Done) (λ x. refl) c.try_withdraw.result c.done.result c.done.ensures
-    c.try_withdraw.ensures.does
+    (lent_by m) (λ _. Done) (λ x. refl) (λ x a is. search rules) c.try_withdraw.result c.answer.result c.answer.ensures c.try_withdraw.ensures.does
