@@ -21,7 +21,7 @@ use checks::{BlockRow, PropertyRow, block_row};
 use kinds::Kind;
 use model::{MAX_BLOCKS, Refusal};
 use search::Frame;
-use tables::{insert_row, remove_row};
+use tables::{insert_row, remove_row, used_rows};
 use tree::TreeTable;
 use verdicts::{first_misplaced, first_overlap};
 
@@ -41,10 +41,9 @@ fn check_apart<A: Kind, W>(
     used: usize,
     region: A,
 ) -> Result<(), Refusal<A::Value, W>>
-    requires { used ≤ length blocks.now }
     ensures { (bs : List (Block A)) → take used blocks.now ≡ map (block_entry A.Kind.plain) bs → ApartFrom A.Kind.holds bs region result }
 {
-    match first_overlap(&blocks[0..used], region) {
+    match first_overlap(used_rows(blocks, used), region) {
         Some(block) => Err(Refusal::Overlap { block }),
         None => Ok(()),
     }
@@ -58,19 +57,17 @@ fn check_placed<A: Kind, R: Kind>(
     standing: usize,
     frames: &mut [Frame<A::Row>],
 ) -> Result<(), Refusal<A::Value, R::Value>>
-    requires { (used ≤ length blocks.now) × ((standing ≤ length properties.now) × (used < length frames.old)) }
+    requires { used < length frames.old }
     ensures { (t : Tree A R) → OwnedApart A.Kind.holds t.blocks → take used blocks.now ≡ map (block_entry A.Kind.plain) t.blocks → take standing properties.now ≡ map (property_row A.Kind.plain R.Kind.plain) t.properties → AllPlaced A.Kind.holds R.Kind.holds t result }
 {
-    let rows = &blocks[0..used];
-    let Ok(found) = first_misplaced::<A, R>(rows, &properties[0..standing], frames) else {
-        return Err(Refusal::TooShort);
-    };
-    match found {
-        None => Ok(()),
+    let blocks = used_rows(blocks, used);
+    let properties = used_rows(properties, standing);
+    match first_misplaced::<A, R>(blocks, properties, frames)? {
         Some(astray) => Err(Refusal::Misplaced {
             property: astray.property,
             address: astray.address,
         }),
+        None => Ok(()),
     }
 }
 

@@ -27,12 +27,9 @@ fn check_source<A: Kind, R: Kind>(
 ) -> Result<(), Refusal<A::Value, R::Value>>
     ensures { (t : Tree A R) → OwnedApart A.Kind.holds t.blocks → blocks.now ≡ map (block_entry A.Kind.plain) t.blocks → SourceChecked A.Kind.holds R.Kind.holds t property (length frames.old) result }
 {
-    match source_astray(blocks, property, frames) {
-        Err(_) => Err(Refusal::TooShort),
-        Ok(found) => match found {
-            Some(address) => Err(Refusal::SourceAstray { address }),
-            None => Ok(()),
-        },
+    match source_astray(blocks, property, frames)? {
+        Some(address) => Err(Refusal::SourceAstray { address }),
+        None => Ok(()),
     }
 }
 
@@ -44,12 +41,9 @@ fn check_destination<A: Kind, R: Kind>(
 ) -> Result<(), Refusal<A::Value, R::Value>>
     ensures { (t : Tree A R) → OwnedApart A.Kind.holds t.blocks → blocks.now ≡ map (block_entry A.Kind.plain) t.blocks → DestinationChecked A.Kind.holds R.Kind.holds t property (length frames.old) result }
 {
-    match find_foreign::<A, R>(blocks, property.destination, property.to, frames) {
-        Err(_) => Err(Refusal::TooShort),
-        Ok(found) => match found {
-            Some(address) => Err(Refusal::DestinationAstray { address }),
-            None => Ok(()),
-        },
+    match find_foreign::<A, R>(blocks, property.destination, property.to, frames)? {
+        Some(address) => Err(Refusal::DestinationAstray { address }),
+        None => Ok(()),
     }
 }
 
@@ -93,6 +87,7 @@ impl<A: Kind, R: Kind> Register<A, R> {
         }
         match property.sort {
             Decision::Accept => Ok(()),
+            // `ok_or` is no plainer, since the firewall itself is dropped.
             Decision::Discard => match self.tree.shared_firewall(property.from, property.to) {
                 Some(_) => Ok(()),
                 None => Err(Refusal::Unjoined),

@@ -31,16 +31,13 @@ impl<A: Kind, R: Kind> Register<A, R> {
     ) -> Result<(), Refusal<A::Value, R::Value>>
         ensures { (t : Tree A R) → shape_of self.now.tree ≡ t.shape → Laid (rule_entry A.Kind.plain R.Kind.plain) (lengths_of self.now.lists) rules.now t.lists → KeptChecked A.Kind.holds R.Kind.holds t property self.now.property_count (length frames.old) result }
     {
-        match first_break(&self.tree, &self.lists, rules, property, frames) {
-            Err(_) => Err(Refusal::TooShort),
-            Ok(found) => match found {
-                None => Ok(()),
-                Some(found) => Err(Refusal::Breaks {
-                    property: self.property_count,
-                    firewall: found.firewall,
-                    packet: found.packet,
-                }),
-            },
+        match first_break(&self.tree, &self.lists, rules, property, frames)? {
+            Some(found) => Err(Refusal::Breaks {
+                property: self.property_count,
+                firewall: found.firewall,
+                packet: found.packet,
+            }),
+            None => Ok(()),
         }
     }
 

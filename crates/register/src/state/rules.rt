@@ -78,12 +78,9 @@ fn check_complete<A: Kind, R: Kind>(
 ) -> Result<(), Refusal<A::Value, R::Value>>
     ensures { (t : Tree A R) (rs : List (RuleOf A R)) → t.addresses ≡ addresses → t.rests ≡ rests → list.now ≡ map (rule_entry A.Kind.plain R.Kind.plain) rs → CompleteJudged A.Kind.holds R.Kind.holds t rs (length frames.old) result }
 {
-    match find_unmatched(list, addresses, rests, frames) {
-        Err(_) => Err(Refusal::TooShort),
-        Ok(found) => match found {
-            Some(packet) => Err(Refusal::Unmatched { packet }),
-            None => Ok(()),
-        },
+    match find_unmatched(list, addresses, rests, frames)? {
+        Some(packet) => Err(Refusal::Unmatched { packet }),
+        None => Ok(()),
     }
 }
 
@@ -100,16 +97,13 @@ impl<A: Kind, R: Kind> Register<A, R> {
         ensures { (t : Tree A R) (rs : List (RuleOf A R)) → Stands A.Kind R.Kind self.now properties.now firewall t → list.now ≡ map (rule_entry A.Kind.plain R.Kind.plain) rs → KeptJudged A.Kind.holds R.Kind.holds t rs (length frames.old) firewall result }
     {
         let standing = part(properties, 0, self.property_count);
-        match first_broken::<A, R>(&self.tree, standing, firewall, list, frames) {
-            Err(_) => Err(Refusal::TooShort),
-            Ok(found) => match found {
-                Some(broken) => Err(Refusal::Breaks {
-                    property: broken.property,
-                    firewall,
-                    packet: broken.packet,
-                }),
-                None => Ok(()),
-            },
+        match first_broken::<A, R>(&self.tree, standing, firewall, list, frames)? {
+            Some(broken) => Err(Refusal::Breaks {
+                property: broken.property,
+                firewall,
+                packet: broken.packet,
+            }),
+            None => Ok(()),
         }
     }
 

@@ -55,7 +55,7 @@ check_placed-requires g c =
     let few = c.args.self.now.properties in
     let kept = c.write_slot.auto.slots in
     let sizes = c.requires in
-    (omega arith, (omega arith, omega arith))
+    omega arith
 
 pub returns-in-Ok-clause-does : goal.returns-in-Ok-clause-does
 returns-in-Ok-clause-does g c =

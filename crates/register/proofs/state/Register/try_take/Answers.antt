@@ -30,7 +30,7 @@ check_placed-requires g c =
     let fewer = c.args.self.now.properties in
     let kept = c.remove_row.auto.rows in
     let sizes = c.requires in
-    (omega arith, (omega arith, omega arith))
+    omega arith
 
 pub returns-in-Ok-clause-does : goal.returns-in-Ok-clause-does
 returns-in-Ok-clause-does g c =
