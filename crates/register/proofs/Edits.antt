@@ -1,5 +1,5 @@
 -- An edit of one firewall's list: that its answer is right, and what is pictured after it.
-use Rattle.std.proofs.Common.{◌≡◌, ℕ, zero, suc, ◌+◌, ◌-◌, ◌<◌, ◌≤◌, Bool, cond, ◌⊎◌, List, [], map, length, take, drop, set, Some, None, Ok, Err, Decides, Option, Result, unwrap_or, sym, refl, ap, ◌∙◌, subst, inl, inr, add-one, arith, length-take}
+use Rattle.std.proofs.Common.{◌≡◌, ℕ, zero, suc, ◌+◌, ◌-◌, ◌<◌, ◌≤◌, Bool, cond, ◌⊎◌, List, [], map, length, take, drop, set, Some, None, Ok, Err, Decides, Option, Result, unwrap_or, sym, refl, ap, ◌∙◌, subst, subst₂, inl, inr, add-one, arith, length-take}
 use native.Mathlib.Decide.{dec_lt}
 use lib.ListN.{length-map}
 use Rattle.std.specs.List.{slice_get, insert, remove}
@@ -33,7 +33,8 @@ use Rattle.lists.proofs.Laid.{laid_length, laid_total, laid_count, laid_placed, 
 use Rattle.checks.specs.Rows.{rule_entry}
 use Rattle.checks.specs.declared.rows.PropertyRow.{PropertyRow}
 use Rattle.register.specs.Edits.{Opened, Stands, Room, There, list_length, KeptJudged, EditJudged, NoneBroken}
-use Rattle.register.specs.Order.{Passed, Refuses}
+use Rattle.register.specs.Offers.{RegionsInside}
+use Rattle.register.specs.Order.{Passed, Demands, Refuses}
 use Rattle.register.specs.Picture.{Pictures, Reached, Tried, answered}
 use Rattle.register.specs.Rows.{Stored, stored, rule_count, row_at}
 use Rattle.register.specs.declared.state.Register.{Register}
@@ -143,6 +144,18 @@ module _ {A R V W X Y : Type 0} (ka : Ghosts A V X) (kr : Ghosts R W Y) (g : Reg
   opened_refused c n known q e is right = record { right = λ s t reached pic. subst (λ z. Right ka.holds kr.holds t c l (Refused z)) (sym is) (right s t pic); fits = tt; short = λ x. absurd (long x) }
 
   module _ (f p : ℕ) (rule : Rule A R) where
+    -- the regions of the rule in the wholes, as they are checked and as the tree has them
+    abbrev Regions : Type 0
+    Regions = RegionsInside ka.holds kr.holds g.addresses g.rests rule.source rule.destination rule.rest
+
+    rule_inside : {s : Stored X Y} (t : Tree A R) → Pictures ka.plain kr.plain g s t → Regions → RuleInside ka.holds kr.holds t rule
+    rule_inside t pic h =
+        let k = subst₂ (λ a r. RegionsInside ka.holds kr.holds a r rule.source rule.destination rule.rest) pic.addresses pic.rests h in
+        record { source = k.0; destination = k.1.0; rest = k.1.1 }
+
+    regions_inside : {s : Stored X Y} (t : Tree A R) → Pictures ka.plain kr.plain g s t → RuleInside ka.holds kr.holds t rule → Regions
+    regions_inside t pic i = subst₂ (λ a r. RegionsInside ka.holds kr.holds a r rule.source rule.destination rule.rest) (sym pic.addresses) (sym pic.rests) (i.source, (i.destination, i.rest))
+
     -- the checks of place, one after the other
     module _ (s : Stored X Y) (t : Tree A R) (pic : Pictures ka.plain kr.plain g s t) where
       place_two : Below {V = V} {W = W} ka.holds kr.holds t (Place f p rule) l 2
@@ -174,11 +187,11 @@ module _ {A R V W X Y : Type 0} (ka : Ghosts A V X) (kr : Ghosts R W Y) (g : Reg
         refuse ka.holds kr.holds t (Place f p rule) l Full (place_four s t pic such) (elim many [ inl high ↦ inl (omega arith) | inr high ↦ inr (omega arith) ]))
 
     pub place_opened : {B : Type 0} → (Missing g f (list_length g f + 1) p → ⊥) → (Crowded g f → ⊥) → (r : Result B (Refusal V W))
-        → ((t : Tree A R) → t.addresses ≡ g.addresses → t.rests ≡ g.rests → Refuses r Outside (RuleInside ka.holds kr.holds t rule → ⊥))
+        → Demands r Outside Regions
         → Opened ka kr g (Place f p rule) l 12 (There g l f (list_length g f + 1) p × Room g f) r
     place_opened such free (Ok x) inside = record {
       right = λ s t reached pic.
-          let six = more ka.holds kr.holds t (Place f p rule) l 5 (place_five s t pic such free) (inside t (sym pic.addresses) (sym pic.rests)) in
+          let six = more ka.holds kr.holds t (Place f p rule) l 5 (place_five s t pic such free) (λ out. out (rule_inside t pic inside)) in
           let ten = to_ten ka.holds kr.holds t (Place f p rule) l refl refl six in
           passed ka.holds kr.holds t (Place f p rule) l 12 (more ka.holds kr.holds t (Place f p rule) l 11 (more ka.holds kr.holds t (Place f p rule) l 10 ten (λ x. x.1)) (λ x. x.2));
       fits = (there_since g l long f (list_length g f + 1) p such, room_since g f free);
@@ -186,8 +199,7 @@ module _ {A R V W X Y : Type 0} (ka : Ghosts A V X) (kr : Ghosts R W Y) (g : Reg
     }
     place_opened such free (Err q) outside = record {
       right = λ s t reached pic.
-          let (is, why) = outside t (sym pic.addresses) (sym pic.rests) in
-          subst (λ z. Right ka.holds kr.holds t (Place f p rule) l (Refused z)) (sym is) (refuse ka.holds kr.holds t (Place f p rule) l Outside (place_five s t pic such free) why);
+          subst (λ z. Right ka.holds kr.holds t (Place f p rule) l (Refused z)) (sym outside.0) (refuse ka.holds kr.holds t (Place f p rule) l Outside (place_five s t pic such free) (λ i. outside.1 (regions_inside t pic i)));
       fits = tt;
       short = λ x. absurd (long x);
     }
@@ -209,19 +221,18 @@ module _ {A R V W X Y : Type 0} (ka : Ghosts A V X) (kr : Ghosts R W Y) (g : Reg
         refuse ka.holds kr.holds t (Alter f p rule) l NoSuch (alter_two s t pic) (missing g t pic.shape f (list_length g f) p (λ z. omega arith) gone))
 
     pub alter_opened : {B : Type 0} → (Missing g f (list_length g f) p → ⊥) → (r : Result B (Refusal V W))
-        → ((t : Tree A R) → t.addresses ≡ g.addresses → t.rests ≡ g.rests → Refuses r Outside (RuleInside ka.holds kr.holds t rule → ⊥))
+        → Demands r Outside Regions
         → Opened ka kr g (Alter f p rule) l 10 (There g l f (list_length g f) p) r
     alter_opened such (Ok x) inside = record {
       right = λ s t reached pic.
-          let six = more ka.holds kr.holds t (Alter f p rule) l 5 (alter_five s t pic such) (inside t (sym pic.addresses) (sym pic.rests)) in
+          let six = more ka.holds kr.holds t (Alter f p rule) l 5 (alter_five s t pic such) (λ out. out (rule_inside t pic inside)) in
           passed ka.holds kr.holds t (Alter f p rule) l 10 (to_ten ka.holds kr.holds t (Alter f p rule) l refl refl six);
       fits = there_since g l long f (list_length g f) p such;
       short = λ x. absurd (long x);
     }
     alter_opened such (Err q) outside = record {
       right = λ s t reached pic.
-          let (is, why) = outside t (sym pic.addresses) (sym pic.rests) in
-          subst (λ z. Right ka.holds kr.holds t (Alter f p rule) l (Refused z)) (sym is) (refuse ka.holds kr.holds t (Alter f p rule) l Outside (alter_five s t pic such) why);
+          subst (λ z. Right ka.holds kr.holds t (Alter f p rule) l (Refused z)) (sym outside.0) (refuse ka.holds kr.holds t (Alter f p rule) l Outside (alter_five s t pic such) (λ i. outside.1 (regions_inside t pic i)));
       fits = tt;
       short = λ x. absurd (long x);
     }

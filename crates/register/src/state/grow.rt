@@ -28,14 +28,12 @@ fn refusal_of<V, W>(refusal: TreeRefusal) -> Refusal<V, W>
     }
 }
 
-// All of 0 to 31.
+// All of 0 to 31. Of `Set::up_to(31)` it is known what it holds, but not that it is this mask.
+#[tactic(auto, using(crate::proofs::Attaching::reads_all))]
 fn every_interface() -> Set
     ensures { result ≡ all_interfaces }
 {
-    match Set::new(u32::MAX) {
-        Some(all) => all,
-        None => unreachable(),
-    }
+    Set::new(u32::MAX).unwrap()
 }
 
 impl<A: Kind, R: Kind> Register<A, R> {

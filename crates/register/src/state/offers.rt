@@ -2,20 +2,19 @@
 ghost use Rattle.std.specs.Prelude.{◌≡◌, ◌⊎◌, map, length, take};
 ghost use Rattle.checks.specs.Addresses.{OwnedApart};
 ghost use Rattle.checks.specs.Rows.{block_entry};
-ghost use Rattle.kinds.specs.Words.{Inside};
 ghost use Rattle.model.specs.Refusals.{Misjoined};
 ghost use Rattle.model.specs.Shape.{Domain};
 ghost use Rattle.model.specs.Tree.{Tree};
-ghost use Rattle.model.specs.declared.answers.Refusal.TheVariants.{NoSuch, Outside, Unjoined};
+ghost use Rattle.model.specs.declared.answers.Refusal.TheVariants.{NoSuch, Unjoined};
 ghost use Rattle.tree.specs.Table.{shape_of};
 ghost use Rattle.register.specs.Offers.{SourceChecked, DestinationChecked, OfferChecked};
-ghost use Rattle.register.specs.Order.{Refuses, Demands};
+ghost use Rattle.register.specs.Order.{Refuses};
 
 use super::Register;
 use checks::{BlockRow, find_foreign};
 use kinds::Kind;
 use model::{Decision, Property, Refusal};
-use search::{Frame, lies_inside};
+use search::Frame;
 use tables::used_rows;
 use verdicts::source_astray;
 
@@ -62,22 +61,6 @@ impl<A: Kind, R: Kind> Register<A, R> {
         Ok(())
     }
 
-    // 5: its regions lie inside the wholes.
-    fn check_property_inside(
-        &self,
-        property: Property<A, R>,
-    ) -> Result<(), Refusal<A::Value, R::Value>>
-        ensures { Demands result Outside (Inside (A.Kind.holds property.source) (A.Kind.holds self.now.addresses) × (Inside (A.Kind.holds property.destination) (A.Kind.holds self.now.addresses) × Inside (R.Kind.holds property.rest) (R.Kind.holds self.now.rests))) }
-    {
-        if lies_inside(property.source, self.addresses)
-            && lies_inside(property.destination, self.addresses)
-            && lies_inside(property.rest, self.rests)
-        {
-            return Ok(());
-        }
-        Err(Refusal::Outside)
-    }
-
     // 7: its domains differ and, for discard, share a firewall.
     fn check_joined(&self, property: Property<A, R>) -> Result<(), Refusal<A::Value, R::Value>>
         ensures { Refuses result Unjoined (Misjoined (shape_of self.now.tree) property) }
@@ -104,7 +87,7 @@ impl<A: Kind, R: Kind> Register<A, R> {
     ) -> Result<(), Refusal<A::Value, R::Value>>
         ensures { (t : Tree A R) → self.now.addresses ≡ t.addresses → self.now.rests ≡ t.rests → shape_of self.now.tree ≡ t.shape → OwnedApart A.Kind.holds t.blocks → take self.now.block_count blocks.now ≡ map (block_entry A.Kind.plain) t.blocks → OfferChecked A.Kind.holds R.Kind.holds t property (length frames.old) result }
     {
-        self.check_property_inside(property)?;
+        self.check_regions_inside(property.source, property.destination, property.rest)?;
         self.check_joined(property)?;
         let used = used_rows(blocks, self.block_count);
         check_source(used, frames, property)?;

@@ -5,7 +5,8 @@ ghost use Rattle.model.specs.Limits.{max_domains, max_interfaces, max_rules};
 ghost use Rattle.model.specs.Shape.{Domain};
 ghost use Rattle.model.specs.declared.answers.Refusal.TheVariants.{NoSuch, BadInterface, Full, Outside};
 ghost use Rattle.tree.specs.Table.{shape_of};
-ghost use Rattle.register.specs.Order.{Refuses};
+ghost use Rattle.register.specs.Offers.{RegionsInside};
+ghost use Rattle.register.specs.Order.{Demands, Refuses};
 ghost use Rattle.register.specs.Rows.{rule_count};
 
 use super::Register;
@@ -72,5 +73,25 @@ impl<A, R> Register<A, R> {
             return Err(Refusal::Full);
         }
         Ok(())
+    }
+}
+
+impl<A: Kind, R: Kind> Register<A, R> {
+    // 5: the three regions of a rule or of a property lie inside the wholes.
+    pub(crate) fn check_regions_inside(
+        &self,
+        source: A,
+        destination: A,
+        rest: R,
+    ) -> Result<(), Refusal<A::Value, R::Value>>
+        ensures { Demands result Outside (RegionsInside A.Kind.holds R.Kind.holds self.now.addresses self.now.rests source destination rest) }
+    {
+        if lies_inside(source, self.addresses)
+            && lies_inside(destination, self.addresses)
+            && lies_inside(rest, self.rests)
+        {
+            return Ok(());
+        }
+        Err(Refusal::Outside)
     }
 }

@@ -1,11 +1,10 @@
 // Edits of one firewall's list of rules.
 ghost use Rattle.std.specs.Prelude.{◌≡◌, ℕ, suc, ◌+◌, ◌-◌, ◌<◌, ◌≤◌, ◌⊎◌, List, map, length, sum};
 ghost use Rattle.model.specs.Limits.{max_list, max_properties, max_rules};
-ghost use Rattle.model.specs.Refusals.{RuleInside};
 ghost use Rattle.model.specs.Shape.{Firewall};
 ghost use Rattle.model.specs.Tree.{Tree};
 ghost use Rattle.model.specs.declared.answers.Answer.TheVariants.{Done};
-ghost use Rattle.model.specs.declared.answers.Refusal.TheVariants.{NoSuch, Full, Outside};
+ghost use Rattle.model.specs.declared.answers.Refusal.TheVariants.{NoSuch, Full};
 ghost use Rattle.model.specs.declared.calls.Call.TheVariants.{Place, Alter, Lift};
 ghost use Rattle.model.specs.declared.rules.Rule.{Rule as RuleOf};
 ghost use Rattle.tree.specs.Table.{shape_of};
@@ -23,7 +22,7 @@ use checks::{PacketRow, PropertyRow, RuleRow, find_unmatched, rule_row};
 use kinds::Kind;
 use lists::ListTable;
 use model::{MAX_LIST, MAX_RULES, Refusal, Rule};
-use search::{Frame, lies_inside};
+use search::Frame;
 use tree::TreeTable;
 use verdicts::first_broken;
 
@@ -43,30 +42,13 @@ fn check_there<V, W>(
 }
 
 // 4: there is room for one more rule in the list of the firewall.
-fn check_room<V, W>(lists: &ListTable, firewall: usize) -> Result<(), Refusal<V, W>>
+fn check_list_room<V, W>(lists: &ListTable, firewall: usize) -> Result<(), Refusal<V, W>>
     ensures { Refuses result Full ((max_list ≤ length_at (lengths_of lists.now) firewall) ⊎ (max_rules ≤ sum (lengths_of lists.now))) }
 {
     if lists.length(firewall) >= MAX_LIST || lists.total() >= MAX_RULES {
         return Err(Refusal::Full);
     }
     Ok(())
-}
-
-// 5: every region of the rule is inside its whole.
-fn check_rule_inside<A: Kind, R: Kind>(
-    rule: Rule<A, R>,
-    addresses: A,
-    rests: R,
-) -> Result<(), Refusal<A::Value, R::Value>>
-    ensures { (t : Tree A R) → t.addresses ≡ addresses → t.rests ≡ rests → Refuses result Outside (RuleInside A.Kind.holds R.Kind.holds t rule → ⊥) }
-{
-    if lies_inside(rule.source, addresses)
-        && lies_inside(rule.destination, addresses)
-        && lies_inside(rule.rest, rests)
-    {
-        return Ok(());
-    }
-    Err(Refusal::Outside)
 }
 
 // 10: every packet of the whole is matched in the list.
@@ -139,8 +121,8 @@ impl<A: Kind, R: Kind> Register<A, R> {
             self.lists.length(firewall) + 1,
             position,
         )?;
-        check_room(&self.lists, firewall)?;
-        check_rule_inside(rule, self.addresses, self.rests)
+        check_list_room(&self.lists, firewall)?;
+        self.check_regions_inside(rule.source, rule.destination, rule.rest)
     }
 
     // Inserts a rule in the list of a firewall.
@@ -187,7 +169,7 @@ impl<A: Kind, R: Kind> Register<A, R> {
     {
         memory.check_lengths()?;
         check_there(&self.tree, firewall, self.lists.length(firewall), position)?;
-        check_rule_inside(rule, self.addresses, self.rests)
+        self.check_regions_inside(rule.source, rule.destination, rule.rest)
     }
 
     // Replaces a rule in the list of a firewall.

@@ -24,4 +24,4 @@ returns g c =
     let f = c.args.firewall in
     alter_opened g.A.Kind g.R.Kind was (lent_by c.args.memory.now) c.in_ok-check_lengths.ensures f c.args.position c.args.rule
     (subst (λ n. (Firewall (shape_of was.tree) f → ⊥) ⊎ (n ≤ c.args.position) → ⊥) c.length.ensures c.in_ok-check_there.ensures)
-    c.check_rule_inside.result c.check_rule_inside.ensures
+    c.check_regions_inside.result c.check_regions_inside.ensures
