@@ -1,26 +1,9 @@
 -- Parts of a table, and edits of a part that lies between two others.
-use Rattle.std.proofs.Common.{◌≡◌, ℕ, suc, ◌+◌, ◌-◌, ◌<◌, ◌≤◌, min, List, ◌∷◌, ◌++◌, map, length, take, drop, set, sym, refl, ap, ◌∙◌, ap₂, inl, inr, append_assoc, arith, length-append, length-drop, length-take, take_all, take-take, take_at, drop_at}
+use Rattle.std.proofs.Common.{◌≡◌, ℕ, suc, ◌+◌, ◌-◌, ◌<◌, ◌≤◌, List, ◌∷◌, ◌++◌, map, length, take, drop, set, sym, refl, ap, ◌∙◌, ap₂, append_assoc, arith, length-append, length-take, take-take, take_at, drop_at}
 use mathlib.Core.List.{map-append}
 use lib.Seq.{take-append-add, drop-append-add, take-append-le, drop-append-le, set-append_left}
 use Rattle.std.specs.List.{insert, remove}
-use Rattle.std.proofs.lemmas.List.{drop_all, drop-take, take-map, drop-map, set-append_right}
-use Rattle.std.proofs.lemmas.Bool.{cases_lt}
-
--- a part that is cut to the rows that there are
-take_cut : {Y : Type 0} (table : List Y) (l size : ℕ) → size ≡ min l (length table) → take size table ≡ take l table
-take_cut table l size e = elim (cases_lt (length table) l) [
-  | inl more ↦ take_all size table (omega arith) ∙ sym (take_all l table (omega arith))
-  | inr le ↦ let same : size ≡ l = omega arith in ap (λ n. take n table) same
-]
-
-drop_cut : {Y : Type 0} (table : List Y) (s from : ℕ) → from ≡ min s (length table) → drop from table ≡ drop s table
-drop_cut table s from e = elim (cases_lt (length table) s) [
-  | inl more ↦ drop_all from table (omega arith) ∙ sym (drop_all s table (omega arith))
-  | inr le ↦ let same : from ≡ s = omega arith in ap (λ n. drop n table) same
-]
-
-pub part_cut : {Y : Type 0} (table : List Y) (s l from size : ℕ) → from ≡ min s (length table) → size ≡ min l (length table - from) → take size (drop from table) ≡ take l (drop s table)
-part_cut table s l from size first e = take_cut (drop from table) l size (rw length-drop e) ∙ ap (take l) (drop_cut table s from first)
+use Rattle.std.proofs.lemmas.List.{drop-take, take-map, drop-map, set-append_right}
 
 -- the part of a table between two others
 pub part_between : {Y : Type 0} (table front part back : List Y) (n s l : ℕ) → take n table ≡ front ++ (part ++ back) → length front ≡ s → length part ≡ l → take l (drop s table) ≡ part

@@ -1,4 +1,3 @@
 pub mod Bounds
-pub mod Edited
 pub mod Between
 pub mod Laid

@@ -2,7 +2,9 @@
 #![tactic(auto)]
 
 mod laws;
+mod refusal;
 mod table;
 
 pub use laws::layouts_hold;
+pub use refusal::ListRefusal;
 pub use table::ListTable;

@@ -1,15 +1,14 @@
 -- What a turn of a part of a table leaves: one row put in, or taken out.
-use Rattle.std.proofs.Common.{◌≡◌, ℕ, zero, suc, ◌+◌, ◌-◌, ◌<◌, ◌≤◌, List, [], ◌∷◌, ◌++◌, length, take, drop, set, Some, sym, refl, ap, ◌∙◌, subst, ap₂, subst₂, append_assoc, arith}
+use Rattle.std.proofs.Common.{◌≡◌, ℕ, zero, suc, ◌+◌, ◌-◌, ◌<◌, ◌≤◌, List, [], ◌∷◌, ◌++◌, length, take, drop, set, Some, sym, refl, ap, ◌∙◌, subst, ap₂, subst₂, append_assoc, add-one, arith}
 use borrow.Rule.Slice.PartMut.{put_mid}
 use Rattle.std.specs.List.{slice_get, insert, remove}
-use Rattle.std.proofs.lemmas.List.{length-drop, length-set, length-append, length_push, length-take-le, take-take, drop-take, drop-set-add, take_more_set, take-set-le, drop-set-lt, take_at, drop_at, take-append-drop}
+use Rattle.std.proofs.lemmas.List.{drop_more, length-drop, length-set, length-append, length_push, length-take-le, take-take, drop-take, drop-set-add, take_more_set, take-set-le, drop-set-lt, take_at, drop_at, take-append-drop}
 use Rattle.tables.specs.Rows.{row_in, row_out}
+use Rattle.std.proofs.lemmas.Option.{get_or_from_slice_get, slice_get_within}
 use Rattle.std.proofs.lemmas.Slice.{take-put_mid, drop-put_mid}
 
 pub drop_nth : {X : Type 0} (xs : List X) (i : ℕ) (x : X) → slice_get xs i ≡ Some x → drop i xs ≡ x ∷ drop (suc i) xs
-drop_nth [] i x e = let z : ◌≡◌ {A = ℕ} 0 1 = cc in absurd (omega arith)
-drop_nth (y ∷ xs) zero x e = let same : y ≡ x = cc in ap (λ z. z ∷ xs) same
-drop_nth (y ∷ xs) (suc i) x e = drop_nth xs i x e
+drop_nth xs i x e = drop_more xs i x (slice_get_within xs i x e) ∙ ap₂ (λ y n. y ∷ drop n xs) (get_or_from_slice_get xs i x x e) (add-one i)
 
 pub nth_at : {X : Type 0} (ys : List X) (x : X) (zs : List X) (n : ℕ) → length ys ≡ n → slice_get (ys ++ x ∷ zs) n ≡ Some x
 nth_at [] x zs zero e = refl

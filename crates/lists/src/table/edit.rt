@@ -1,10 +1,12 @@
 // How the lists grow and shrink.
-ghost use Rattle.std.specs.Prelude.{◌≡◌, suc, ◌-◌, ◌<◌, ◌≤◌, false, [], ◌∷◌, ◌++◌, length, if◌then◌else◌, Decides, sum, slice_set};
+ghost use Rattle.std.specs.Prelude.{◌≡◌, suc, ◌-◌, ◌<◌, ◌≤◌, ◌↔◌, [], ◌∷◌, ◌++◌, length, if◌then◌else◌, is_ok, is_some, IsOk, IfOk, OnErr, IsErrOf, IsSome, IfSome, IfNone, sum, slice_set};
 ghost use Rattle.model.specs.Limits.{max_domains, max_list, max_rules};
 ghost use Rattle.lists.specs.Lengths.{lengths_of, length_at};
 
-use super::{ListTable, ROWS};
+use super::ListTable;
+use crate::refusal::ListRefusal;
 use model::{MAX_LIST, MAX_RULES};
+use tables::{FixedVec, Full};
 
 impl ListTable {
     // No list yet.
@@ -12,72 +14,51 @@ impl ListTable {
         ensures { lengths_of result ≡ [] }
     {
         ListTable {
-            lengths: [0; ROWS],
-            count: 0,
+            lengths: FixedVec::new(0),
         }
     }
 
-    // Adds a list of one rule, for the next firewall. Answers no, and does nothing, exactly when
-    // there is no room for it.
-    pub fn add(&mut self) -> bool
-        ensures room { Decides result ((length (lengths_of self.old) < max_domains - 1) × (sum (lengths_of self.old) < max_rules)) }
-        ensures after { lengths_of self.new ≡ (if result then lengths_of self.old ++ (1 ∷ []) else lengths_of self.old) }
-        ensures same { result ≡ false → self.new ≡ self.old }
+    // Adds a list of one rule, for the next firewall. Nothing is done exactly when there is no room
+    // for it.
+    pub fn add(&mut self) -> Result<(), Full>
+        ensures room { IsOk result ↔ ((length (lengths_of self.old) < max_domains - 1) × (sum (lengths_of self.old) < max_rules)) }
+        ensures after { lengths_of self.new ≡ (if is_ok result then lengths_of self.old ++ (1 ∷ []) else lengths_of self.old) }
+        ensures same { OnErr result (self.new ≡ self.old) }
     {
-        if self.count >= ROWS || self.total() >= MAX_RULES {
-            return false;
+        if self.total() >= MAX_RULES {
+            return Err(Full);
         }
-        self.push();
-        true
+        self.lengths.push(1)
     }
 
-    // The list of a firewall has one rule more. Answers no, and does nothing, exactly when there is
+    // The list of a firewall has one rule more; its length now. Nothing is done exactly when there is
     // no such firewall or no room for the rule.
-    pub fn grow(&mut self, firewall: usize) -> bool
-        ensures room { Decides result ((firewall < length (lengths_of self.old)) × (length_at (lengths_of self.old) firewall < max_list) × (sum (lengths_of self.old) < max_rules)) }
-        ensures after { lengths_of self.new ≡ (if result then slice_set (lengths_of self.old) firewall (suc (length_at (lengths_of self.old) firewall)) else lengths_of self.old) }
-        ensures same { result ≡ false → self.new ≡ self.old }
+    #[tactic(auto, using(std::proofs::lemmas::Grind::elements))]
+    pub fn grow(&mut self, firewall: usize) -> Result<usize, ListRefusal>
+        ensures room { IsOk result ↔ ((firewall < length (lengths_of self.old)) × (length_at (lengths_of self.old) firewall < max_list) × (sum (lengths_of self.old) < max_rules)) }
+        ensures length { IfOk result (λ now. now ≡ suc (length_at (lengths_of self.old) firewall)) }
+        ensures none { IsErrOf result ListRefusal.NoSuch ↔ (length (lengths_of self.old) ≤ firewall) }
+        ensures after { lengths_of self.new ≡ (if is_ok result then slice_set (lengths_of self.old) firewall (suc (length_at (lengths_of self.old) firewall)) else lengths_of self.old) }
+        ensures same { OnErr result (self.new ≡ self.old) }
     {
-        let length = self.length(firewall);
-        if firewall >= self.count || length >= MAX_LIST || self.total() >= MAX_RULES {
-            return false;
+        let length = self.lengths.get(firewall).ok_or(ListRefusal::NoSuch)?;
+        if length >= MAX_LIST || self.total() >= MAX_RULES {
+            return Err(ListRefusal::Full);
         }
-        self.put(firewall, length + 1);
-        true
+        self.lengths.set(firewall, length + 1);
+        Ok(length + 1)
     }
 
-    // The list of a firewall has one rule less. Answers no, and does nothing, exactly when it has
+    // The list of a firewall has one rule less; its length now. Nothing is done exactly when it has
     // none.
-    pub fn shrink(&mut self, firewall: usize) -> bool
-        ensures some { Decides result (0 < length_at (lengths_of self.old) firewall) }
-        ensures after { lengths_of self.new ≡ (if result then slice_set (lengths_of self.old) firewall (length_at (lengths_of self.old) firewall - 1) else lengths_of self.old) }
-        ensures same { result ≡ false → self.new ≡ self.old }
+    pub fn shrink(&mut self, firewall: usize) -> Option<usize>
+        ensures some { IsSome result ↔ (0 < length_at (lengths_of self.old) firewall) }
+        ensures length { IfSome result (λ now. now ≡ length_at (lengths_of self.old) firewall - 1) }
+        ensures after { lengths_of self.new ≡ (if is_some result then slice_set (lengths_of self.old) firewall (length_at (lengths_of self.old) firewall - 1) else lengths_of self.old) }
+        ensures same { IfNone result (self.new ≡ self.old) }
     {
-        let length = self.length(firewall);
-        if length == 0 {
-            return false;
-        }
-        self.put(firewall, length - 1);
-        true
-    }
-
-    // Writes the length of a new list, of one rule.
-    fn push(&mut self)
-        requires few { self.old.count < max_domains - 1 }
-        requires room { sum (lengths_of self.old) < max_rules }
-        ensures { lengths_of self.new ≡ lengths_of self.old ++ (1 ∷ []) }
-    {
-        self.lengths[self.count] = 1;
-        self.count += 1;
-    }
-
-    // Writes another length of a list that there is.
-    fn put(&mut self, firewall: usize, length: usize)
-        requires there { firewall < self.old.count }
-        requires short { length ≤ max_list }
-        requires room { sum (slice_set (lengths_of self.old) firewall length) ≤ max_rules }
-        ensures { lengths_of self.new ≡ slice_set (lengths_of self.old) firewall length }
-    {
-        self.lengths[firewall] = length;
+        let length = self.length(firewall).checked_sub(1)?;
+        self.lengths.set(firewall, length);
+        Some(length)
     }
 }
