@@ -2,6 +2,7 @@
 use Rattle.std.proofs.Common.{◌≡◌, ℕ, ◌-◌, ◌≤◌, ◌⊎◌, map, length, take, Some, None, Ok, Option, sym, refl, ap, ◌∙◌, subst, inl, inr, arith, MatchOption}
 use native.Mathlib.Nat.{sub-zero}
 use Rattle.std.proofs.lemmas.Bool.{cases_lt}
+use Rattle.kinds.specs.declared.kind.Kind.{Ghosts}
 use Rattle.model.specs.Limits.{max_blocks, max_list, min_packet_frames, min_address_frames}
 use Rattle.model.specs.Properties.{IsSourceAstray, IsDestinationAstray}
 use Rattle.model.specs.Record.{Right, then_tree}
@@ -38,12 +39,12 @@ addresses_enough l long = elim (cases_lt l.address_frames min_address_frames) [ 
 pub blocks_enough : (l : Lent) → (IsTooShort l → ⊥) → max_blocks ≤ l.blocks
 blocks_enough l long = elim (cases_lt l.blocks max_blocks) [ inl less ↦ absurd (long (inr (inl less))) | inr le ↦ le ]
 
-module _ {A R V W X Y : Type 0} (addr : A → V → Type 0) (rests : R → W → Type 0) (pa : A → X) (pr : R → Y) (g : Register A R) (s : Stored X Y) (t : Tree A R) (pic : Pictures pa pr g s t) where
+module _ {A R V W X Y : Type 0} (ka : Ghosts A V X) (kr : Ghosts R W Y) (g : Register A R) (s : Stored X Y) (t : Tree A R) (pic : Pictures ka.plain kr.plain g s t) where
   -- the used blocks, as a call has them
-  pub blocks_used : take (g.block_count - 0) s.blocks ≡ map (block_entry pa) t.blocks
+  pub blocks_used : take (g.block_count - 0) s.blocks ≡ map (block_entry ka.plain) t.blocks
   blocks_used = ap (λ n. take n s.blocks) (sub-zero g.block_count) ∙ pic.blocks
 
-  pub owned_apart : Grown addr rests t → OwnedApart addr t.blocks
+  pub owned_apart : Grown ka.holds kr.holds t → OwnedApart ka.holds t.blocks
   owned_apart grown = record { owned = λ k b e. (grown.owned k b e).0; apart = grown.apart }
 
   -- the search of the blocks has frames enough
@@ -62,58 +63,58 @@ module _ {A R V W X Y : Type 0} (addr : A → V → Type 0) (rests : R → W →
     nowhere_here h = subst (λ z. (Domain z p.from → ⊥) ⊎ (Domain z p.to → ⊥)) (sym pic.shape) h
 
     -- 5 to 9, for a call that offers p
-    module _ (five : Below addr rests t c l 5) (off : offered c ≡ Some p) (alone : (b : ℕ) → Overlaps addr rests t c b → ⊥) (to : AllInside addr rests t c → PropertyInside addr rests t p) (of : PropertyInside addr rests t p → AllInside addr rests t c) where
+    module _ (five : Below ka.holds kr.holds t c l 5) (off : offered c ≡ Some p) (alone : (b : ℕ) → Overlaps ka.holds kr.holds t c b → ⊥) (to : AllInside ka.holds kr.holds t c → PropertyInside ka.holds kr.holds t p) (of : PropertyInside ka.holds kr.holds t p → AllInside ka.holds kr.holds t c) where
       offers : (P : Property A R → Type 0) → P p → MatchOption (offered c) ⊥ P
       offers P h = subst (λ o. MatchOption o ⊥ P) (sym off) h
 
       offers_back : (P : Property A R → Type 0) → MatchOption (offered c) ⊥ P → P p
       offers_back P h = subst (λ o. MatchOption o ⊥ P) off h
 
-      seven : PropertyInside addr rests t p → Below addr rests t c l 7
-      seven inside = more addr rests t c l 6 (more addr rests t c l 5 five (λ x. x (of inside))) (λ x. alone x.0 x.1)
+      seven : PropertyInside ka.holds kr.holds t p → Below ka.holds kr.holds t c l 7
+      seven inside = more ka.holds kr.holds t c l 6 (more ka.holds kr.holds t c l 5 five (λ x. x (of inside))) (λ x. alone x.0 x.1)
 
-      pub misfit_right : (q : Refusal V W) → Misfits addr rests t p q → Right addr rests t c l (Refused q)
-      misfit_right q (outside is not) = subst (λ z. Right addr rests t c l (Refused z)) (sym is) (refuse addr rests t c l Outside five (λ h. not (to h)))
-      misfit_right q (unjoined is inside bad) = subst (λ z. Right addr rests t c l (Refused z)) (sym is) (refuse addr rests t c l Unjoined (seven inside) (offers (λ x. Misjoined t.shape x) bad))
+      pub misfit_right : (q : Refusal V W) → Misfits ka.holds kr.holds t p q → Right ka.holds kr.holds t c l (Refused q)
+      misfit_right q (outside is not) = subst (λ z. Right ka.holds kr.holds t c l (Refused z)) (sym is) (refuse ka.holds kr.holds t c l Outside five (λ h. not (to h)))
+      misfit_right q (unjoined is inside bad) = subst (λ z. Right ka.holds kr.holds t c l (Refused z)) (sym is) (refuse ka.holds kr.holds t c l Unjoined (seven inside) (offers (λ x. Misjoined t.shape x) bad))
       misfit_right q (source v is inside joined astray) =
-          let eight = more addr rests t c l 7 (seven inside) (λ x. joined (offers_back (λ y. Misjoined t.shape y) x)) in
-          subst (λ z. Right addr rests t c l (Refused z)) (sym is) (refuse addr rests t c l (SourceAstray v) eight (offers (λ y. IsSourceAstray addr rests t y v) astray))
+          let eight = more ka.holds kr.holds t c l 7 (seven inside) (λ x. joined (offers_back (λ y. Misjoined t.shape y) x)) in
+          subst (λ z. Right ka.holds kr.holds t c l (Refused z)) (sym is) (refuse ka.holds kr.holds t c l (SourceAstray v) eight (offers (λ y. IsSourceAstray ka.holds kr.holds t y v) astray))
       misfit_right q (destination v is inside joined placed astray) =
-          let eight = more addr rests t c l 7 (seven inside) (λ x. joined (offers_back (λ y. Misjoined t.shape y) x)) in
-          let nine = more addr rests t c l 8 eight (λ x. placed x.0 (offers_back (λ y. IsSourceAstray addr rests t y x.0) x.1)) in
-          subst (λ z. Right addr rests t c l (Refused z)) (sym is) (refuse addr rests t c l (DestinationAstray v) nine (offers (λ y. IsDestinationAstray addr rests t y v) astray))
+          let eight = more ka.holds kr.holds t c l 7 (seven inside) (λ x. joined (offers_back (λ y. Misjoined t.shape y) x)) in
+          let nine = more ka.holds kr.holds t c l 8 eight (λ x. placed x.0 (offers_back (λ y. IsSourceAstray ka.holds kr.holds t y x.0) x.1)) in
+          subst (λ z. Right ka.holds kr.holds t c l (Refused z)) (sym is) (refuse ka.holds kr.holds t c l (DestinationAstray v) nine (offers (λ y. IsDestinationAstray ka.holds kr.holds t y v) astray))
 
-      pub fits_below : Fits addr rests t p → Below addr rests t c l 10
+      pub fits_below : Fits ka.holds kr.holds t p → Below ka.holds kr.holds t c l 10
       fits_below f =
-          let eight = more addr rests t c l 7 (seven f.inside) (λ x. f.joined (offers_back (λ y. Misjoined t.shape y) x)) in
-          let nine = more addr rests t c l 8 eight (λ x. f.source x.0 (offers_back (λ y. IsSourceAstray addr rests t y x.0) x.1)) in
-          more addr rests t c l 9 nine (λ x. f.destination x.0 (offers_back (λ y. IsDestinationAstray addr rests t y x.0) x.1))
+          let eight = more ka.holds kr.holds t c l 7 (seven f.inside) (λ x. f.joined (offers_back (λ y. Misjoined t.shape y) x)) in
+          let nine = more ka.holds kr.holds t c l 8 eight (λ x. f.source x.0 (offers_back (λ y. IsSourceAstray ka.holds kr.holds t y x.0) x.1)) in
+          more ka.holds kr.holds t c l 9 nine (λ x. f.destination x.0 (offers_back (λ y. IsDestinationAstray ka.holds kr.holds t y x.0) x.1))
 
   -- ask
   module _ (p : Property A R) (l : Lent) (long : IsTooShort l → ⊥) where
     abbrev ask : Call A R V W
     ask = Ask p
 
-    ask_two : Below addr rests t ask l 2
-    ask_two = more addr rests t ask l 1 (below_one addr rests t ask l) long
+    ask_two : Below ka.holds kr.holds t ask l 2
+    ask_two = more ka.holds kr.holds t ask l 1 (below_one ka.holds kr.holds t ask l) long
 
-    pub ask_nowhere : NowhereBetween p ask l → Right addr rests t ask l (Refused NoSuch)
-    ask_nowhere none = refuse addr rests t ask l NoSuch ask_two (nowhere_there p ask l none)
+    pub ask_nowhere : NowhereBetween p ask l → Right ka.holds kr.holds t ask l (Refused NoSuch)
+    ask_nowhere none = refuse ka.holds kr.holds t ask l NoSuch ask_two (nowhere_there p ask l none)
 
     module _ (between : NowhereBetween p ask l → ⊥) where
-      ask_five : Below addr rests t ask l 5
-      ask_five = more addr rests t ask l 4 (more addr rests t ask l 3 (more addr rests t ask l 2 ask_two (λ x. between (nowhere_here p ask l x))) (λ x. x)) (λ x. x)
+      ask_five : Below ka.holds kr.holds t ask l 5
+      ask_five = more ka.holds kr.holds t ask l 4 (more ka.holds kr.holds t ask l 3 (more ka.holds kr.holds t ask l 2 ask_two (λ x. between (nowhere_here p ask l x))) (λ x. x)) (λ x. x)
 
-      pub ask_misfits : (q : Refusal V W) → Misfits addr rests t p q → Right addr rests t ask l (Refused q)
+      pub ask_misfits : (q : Refusal V W) → Misfits ka.holds kr.holds t p q → Right ka.holds kr.holds t ask l (Refused q)
       ask_misfits = misfit_right p ask l ask_five refl (λ b x. x) (λ h. h) (λ h. h)
 
-      ask_none : Fits addr rests t p → (q : Refusal V W) → Applies addr rests t ask l q → ⊥
+      ask_none : Fits ka.holds kr.holds t p → (q : Refusal V W) → Applies ka.holds kr.holds t ask l q → ⊥
       ask_none fits =
-          let up = more addr rests t ask l in
-          none addr rests t ask l (up 12 (up 11 (up 10 (fits_below p ask l ask_five refl (λ b x. x) (λ h. h) (λ h. h) fits) (λ x. x.1)) (λ x. x.2)) (λ x. x.3))
+          let up = more ka.holds kr.holds t ask l in
+          none ka.holds kr.holds t ask l (up 12 (up 11 (up 10 (fits_below p ask l ask_five refl (λ b x. x) (λ h. h) (λ h. h) fits) (λ x. x.1)) (λ x. x.2)) (λ x. x.3))
 
-      pub ask_turns : Fits addr rests t p → (n : ℕ) (found : Option (Break V W)) → AskedFound addr rests t p n (Ok found)
-          → Right addr rests t ask l (asked_as found) × Pictures pa pr g s (then_tree t (record { call = ask; lent = l; answer = asked_as found }))
+      pub ask_turns : Fits ka.holds kr.holds t p → (n : ℕ) (found : Option (Break V W)) → AskedFound ka.holds kr.holds t p n (Ok found)
+          → Right ka.holds kr.holds t ask l (asked_as found) × Pictures ka.plain kr.plain g s (then_tree t (record { call = ask; lent = l; answer = asked_as found }))
       ask_turns fits n None kept = ((ask_none fits, kept), pic)
       ask_turns fits n (Some b) breaks = ((ask_none fits, breaks), pic)
 

@@ -4,6 +4,7 @@ use mathlib.Core.HLevel.{×_prop}
 use native.Mathlib.Bridge.{le_prop}
 use Rattle.std.proofs.lemmas.List.{take_more_set}
 use Rattle.std.proofs.lemmas.Bool.{cases_lt}
+use Rattle.kinds.specs.declared.kind.Kind.{Ghosts}
 use Rattle.kinds.specs.Set.{set_of}
 use Rattle.kinds.specs.declared.pair.Pair.{Pair}
 use Rattle.kinds.specs.declared.set.SetRow.{SetRow}
@@ -71,39 +72,39 @@ attach_rows pa pr g w l long room before after size total row rule there is whol
     let enough : max_rules ≤ l.rules = elim (cases_lt l.rules max_rules) [ inl less ↦ absurd (long (inl less)) | inr le ↦ le ] in
     chosen r (set before total row) before after tells (omega arith, omega arith) next ∙ ap₂ (λ n x. set before n x) there (is ∙ ap (rule_entry pa pr) whole)
 
-module _ {A R V W X Y : Type 0} (addr : A → V → Type 0) (rests : R → W → Type 0) (pa : A → X) (pr : R → Y) (g : Register A R) (s : Stored X Y) (t : Tree A R) (pic : Pictures pa pr g s t)
+module _ {A R V W X Y : Type 0} (ka : Ghosts A V X) (kr : Ghosts R W Y) (g : Register A R) (s : Stored X Y) (t : Tree A R) (pic : Pictures ka.plain kr.plain g s t)
     (d i j : ℕ) (w : Decision) (l : Lent) (long : IsTooShort l → ⊥) where
   abbrev call : Call A R V W
   call = Attach d i j w
 
-  below_two : Below addr rests t call l 2
-  below_two = more addr rests t call l 1 (below_one addr rests t call l) long
+  below_two : Below ka.holds kr.holds t call l 2
+  below_two = more ka.holds kr.holds t call l 1 (below_one ka.holds kr.holds t call l) long
 
-  pub attach_nowhere : (Domain (shape_of g.tree) d → ⊥) → Right addr rests t call l (Refused NoSuch)
-  attach_nowhere none = refuse addr rests t call l NoSuch below_two (λ x. none (subst (λ z. Domain z d) (sym pic.shape) x))
+  pub attach_nowhere : (Domain (shape_of g.tree) d → ⊥) → Right ka.holds kr.holds t call l (Refused NoSuch)
+  attach_nowhere none = refuse ka.holds kr.holds t call l NoSuch below_two (λ x. none (subst (λ z. Domain z d) (sym pic.shape) x))
 
   module _ (there : (Domain (shape_of g.tree) d → ⊥) → ⊥) where
-    below_three : Below addr rests t call l 3
-    below_three = more addr rests t call l 2 below_two (λ n. there (λ h. n (subst (λ z. Domain z d) pic.shape h)))
+    below_three : Below ka.holds kr.holds t call l 3
+    below_three = more ka.holds kr.holds t call l 2 below_two (λ n. there (λ h. n (subst (λ z. Domain z d) pic.shape h)))
 
-    pub attach_badly : (max_interfaces ≤ i) ⊎ ((max_interfaces ≤ j) ⊎ (i ≡ j)) → Right addr rests t call l (Refused BadInterface)
-    attach_badly bad = refuse addr rests t call l BadInterface below_three bad
+    pub attach_badly : (max_interfaces ≤ i) ⊎ ((max_interfaces ≤ j) ⊎ (i ≡ j)) → Right ka.holds kr.holds t call l (Refused BadInterface)
+    attach_badly bad = refuse ka.holds kr.holds t call l BadInterface below_three bad
 
     module _ (ok : (max_interfaces ≤ i) ⊎ ((max_interfaces ≤ j) ⊎ (i ≡ j)) → ⊥) where
-      below_four : Below addr rests t call l 4
-      below_four = more addr rests t call l 3 below_three ok
+      below_four : Below ka.holds kr.holds t call l 4
+      below_four = more ka.holds kr.holds t call l 3 below_three ok
 
       domains : length (shape_of g.tree).domains ≡ length t.shape.domains
       domains = ap (λ (z : Shape). length z.domains) pic.shape
 
-      pub attach_full : (max_domains < suc (length (shape_of g.tree).domains) + 1) ⊎ (max_rules < rule_count g + 1) → Right addr rests t call l (Refused Full)
-      attach_full (inl few) = refuse addr rests t call l Full below_four (inl (let e = domains in omega arith))
-      attach_full (inr few) = refuse addr rests t call l Full below_four (inr (let e = laid_total pic.lists in omega arith))
+      pub attach_full : (max_domains < suc (length (shape_of g.tree).domains) + 1) ⊎ (max_rules < rule_count g + 1) → Right ka.holds kr.holds t call l (Refused Full)
+      attach_full (inl few) = refuse ka.holds kr.holds t call l Full below_four (inl (let e = domains in omega arith))
+      attach_full (inr few) = refuse ka.holds kr.holds t call l Full below_four (inr (let e = laid_total pic.lists in omega arith))
 
       pub attach_right : ((max_domains < suc (length (shape_of g.tree).domains) + 1) ⊎ (max_rules < rule_count g + 1) → ⊥) → (made : ℕ × ℕ) (last : TreeTable) → Attaches g.tree d i j (Ok made) last
-          → Right addr rests t call l (Attached made.0 made.1)
+          → Right ka.holds kr.holds t call l (Attached made.0 made.1)
       attach_right room made last a =
-          let up = more addr rests t call l in
+          let up = more ka.holds kr.holds t call l in
           let five = up 4 below_four (λ x. elim x [
             | inl few ↦ room (inl (let e = domains in omega arith))
             | inr few ↦ room (inr (let e = laid_total pic.lists in omega arith))
@@ -114,20 +115,20 @@ module _ {A R V W X Y : Type 0} (addr : A → V → Type 0) (rests : R → W →
           let firewalls = ap (λ (z : Shape). length z.firewalls) pic.shape in
           let first = a.2 ∙ firewalls in
           let second = a.3 ∙ ap suc domains in
-          (none addr rests t call l all, λ x. Attached (first x) (second x))
+          (none ka.holds kr.holds t call l all, λ x. Attached (first x) (second x))
 
   -- the table of rules after it, and the lists that it holds
-  pub attach_lists : (lens : List ℕ) (rules : List (Entry (Pair SetRow (Pair X (Pair X Y))))) → l.rules ≡ length s.rules → (max_rules < rule_count g + 1 → ⊥) → lens ≡ lengths_of g.lists ++ (1 ∷ []) → rules ≡ set s.rules (rule_count g) (rule_entry pa pr (catch_all g w))
-      → Laid (rule_entry pa pr) lens rules (t.lists ++ ((whole_rule t w ∷ []) ∷ []))
+  pub attach_lists : (lens : List ℕ) (rules : List (Entry (Pair SetRow (Pair X (Pair X Y))))) → l.rules ≡ length s.rules → (max_rules < rule_count g + 1 → ⊥) → lens ≡ lengths_of g.lists ++ (1 ∷ []) → rules ≡ set s.rules (rule_count g) (rule_entry ka.plain kr.plain (catch_all g w))
+      → Laid (rule_entry ka.plain kr.plain) lens rules (t.lists ++ ((whole_rule t w ∷ []) ∷ []))
   attach_lists lens rules size room next is =
       let enough : max_rules ≤ l.rules = elim (cases_lt l.rules max_rules) [ inl less ↦ absurd (long (inl less)) | inr le ↦ le ] in
       let within : rule_count g < length s.rules = omega arith in
       let rule : catch_all g w ≡ whole_rule t w = λ x. record { interfaces = all_interfaces; source = pic.addresses x; destination = pic.addresses x; rest = pic.rests x; decision = w } in
-      subst (λ ns. Laid (rule_entry pa pr) ns rules (t.lists ++ ((whole_rule t w ∷ []) ∷ []))) (sym next)
-      (laid_added pic.lists (whole_rule t w) rules (ap (take (rule_count g + 1)) is ∙ take_more_set s.rules (rule_count g) (rule_entry pa pr (catch_all g w)) within ∙ ap (λ r. take (rule_count g) s.rules ++ (rule_entry pa pr r ∷ [])) rule))
+      subst (λ ns. Laid (rule_entry ka.plain kr.plain) ns rules (t.lists ++ ((whole_rule t w ∷ []) ∷ []))) (sym next)
+      (laid_added pic.lists (whole_rule t w) rules (ap (take (rule_count g + 1)) is ∙ take_more_set s.rules (rule_count g) (rule_entry ka.plain kr.plain (catch_all g w)) within ∙ ap (λ r. take (rule_count g) s.rules ++ (rule_entry ka.plain kr.plain r ∷ [])) rule))
 
   -- there is room for a list where there is for a domain
-  pub attach_room : Grown addr rests t → (max_domains < suc (length (shape_of g.tree).domains) + 1 → ⊥) → length (lengths_of g.lists) < max_domains - 1
+  pub attach_room : Grown ka.holds kr.holds t → (max_domains < suc (length (shape_of g.tree).domains) + 1 → ⊥) → length (lengths_of g.lists) < max_domains - 1
   attach_room grown room =
       let count = laid_count pic.lists ∙ grown.lists ∙ ap (λ (z : Shape). length z.firewalls) (sym pic.shape) in
       let fewer = g.tree.fewer in

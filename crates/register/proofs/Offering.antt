@@ -1,6 +1,5 @@
 -- What the checks of an offered property say together.
 use Rattle.std.proofs.Common.{◌≡◌, ℕ, ◌≤◌, ◌⊎◌, length, IsErrAnd, Ok, Err, Result, sym, subst, subst₂, inl, inr}
-use Rattle.kinds.specs.Words.{Inside}
 use Rattle.model.specs.Properties.{IsSourceAstray}
 use Rattle.model.specs.Refusals.{PropertyInside, Misjoined}
 use Rattle.model.specs.Shape.{Shape}
@@ -8,13 +7,13 @@ use Rattle.model.specs.Tree.{Tree}
 use Rattle.model.specs.declared.answers.Refusal.{Refusal}
 use Rattle.model.specs.declared.answers.Refusal.TheVariants.{Outside, Unjoined}
 use Rattle.model.specs.declared.rules.Property.{Property}
-use Rattle.register.specs.Offers.{SourceChecked, DestinationChecked, Misfits, OfferChecked}
+use Rattle.register.specs.Offers.{RegionsInside, SourceChecked, DestinationChecked, Misfits, OfferChecked}
 use Rattle.register.specs.Offers.Misfits.{outside, unjoined, source, destination}
 
 module _ {A R V W : Type 0} (addr : A → V → Type 0) (rests : R → W → Type 0) (t : Tree A R) (p : Property A R) (frames : ℕ) where
   -- the three regions inside the wholes, as a product
   abbrev pub InWholes : A → R → Type 0
-  InWholes a r = Inside (addr p.source) (addr a) × (Inside (addr p.destination) (addr a) × Inside (rests p.rest) (rests r))
+  InWholes a r = RegionsInside addr rests a r p.source p.destination p.rest
 
   -- the exit of a check
   exit : (q : Refusal V W) (r : Result (Unit {0}) (Refusal V W)) → IsErrAnd r (λ y. y ≡ q) → (frames ≤ length t.blocks) ⊎ Misfits addr rests t p q → OfferChecked addr rests t p frames r

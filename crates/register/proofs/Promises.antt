@@ -1,5 +1,6 @@
 -- What is proved of a call in every tree is its promise for every record.
 use Rattle.std.proofs.Common.{◌≡◌, ℕ, List, [], ◌∷◌, ◌++◌, IfSome, Some, None, Ok, Err, Option, Result, sym, refl, subst, arith, MatchOption}
+use Rattle.kinds.specs.declared.kind.Kind.{Ghosts}
 use Rattle.kinds.specs.Words.{Inhabited}
 use Rattle.model.specs.Record.{refused, plain}
 use Rattle.model.specs.declared.answers.Answer.{Answer}
@@ -13,7 +14,7 @@ use Rattle.verdicts.specs.Passage.{passage_answer}
 use Rattle.verdicts.specs.declared.passage.Passage.{Passage}
 use Rattle.verdicts.specs.declared.passage.Passage.TheVariants.{Passed, Stopped}
 use Rattle.verdicts.specs.declared.route.Break.{Break}
-use Rattle.register.specs.Picture.{Pictures, Turns, Tried, answered, asked_as}
+use Rattle.register.specs.Picture.{Pictures, Turns, Tried, Answers, answered, asked_as}
 use Rattle.register.specs.Promise.{Tells, Promise}
 use Rattle.register.specs.Rows.{Stored, stored_after}
 use Rattle.register.specs.declared.state.Register.{Register}
@@ -27,20 +28,20 @@ pub sent_plain : {V W : Type 0} (p : Passage) → refused {V = V} {W = W} (passa
 sent_plain Passed = refl
 sent_plain (Stopped f n) = refl
 
-module _ {A R V W X Y : Type 0} (addr : A → V → Type 0) (rests : R → W → Type 0) (pa : A → X) (pr : R → Y) (tell : (x : A) (v : V) → Dec (addr x v)) (some : (x : A) → Inhabited (addr x))
+module _ {A R V W X Y : Type 0} (ka : Ghosts A V X) (kr : Ghosts R W Y) (tell : (x : A) (v : V) → Dec (ka.holds x v)) (some : (x : A) → Inhabited (ka.holds x))
     (g h : Register A R) (s z : Stored X Y) (c : Call A R V W) (l : Lent) where
   -- the record that register and tables tell goes on by this entry
-  pub tells_more : (a : Answer V W) → Turns addr rests pa pr g s c l a h z → (x : A) (y : R) (es : List (Recorded A R V W)) → Tells addr rests pa pr x y es g s → Tells addr rests pa pr x y (es ++ (record { call = c; lent = l; answer = a } ∷ [])) h z
+  pub tells_more : (a : Answer V W) → Turns ka kr g s c l a h z → (x : A) (y : R) (es : List (Recorded A R V W)) → Tells ka kr x y es g s → Tells ka kr x y (es ++ (record { call = c; lent = l; answer = a } ∷ [])) h z
   tells_more a turns x y es told =
       let did = turns (plain x y es) (x, y, es, told.lawful, refl) told.pictures in
-      let next = right_more addr rests tell some x y es (record { call = c; lent = l; answer = a }) told.lawful did.0 in
-      record { pictures = subst (Pictures pa pr h z) (sym next.1) did.1; lawful = next.0 }
+      let next = right_more ka.holds kr.holds tell some x y es (record { call = c; lent = l; answer = a }) told.lawful did.0 in
+      record { pictures = subst (Pictures ka.plain kr.plain h z) (sym next.1) did.1; lawful = next.0 }
 
-  tried_promise : {B : Type 0} (say : B → Answer V W) (r : Result B (Refusal V W)) → ((x : B) → refused (say x) ≡ None) → Tried addr rests pa pr g s c l say r h z → Promise addr rests pa pr g s c l (answered say r) h z
+  tried_promise : {B : Type 0} (say : B → Answer V W) (r : Result B (Refusal V W)) → ((x : B) → refused (say x) ≡ None) → Tried ka kr g s c l say r h z → Promise ka kr g s c l (answered say r) h z
   tried_promise say (Ok x) plainly tried = record {
     tells = tells_more (say x) tried.turns;
     kept = subst (λ o. IfSome o (λ q. h ≡ g)) (sym (plainly x)) tt;
-    rows = subst (λ o. MatchOption o (z ≡ stored_after pa pr g s c) (λ q. z ≡ s)) (sym (plainly x)) tried.tables;
+    rows = subst (λ o. MatchOption o (z ≡ stored_after ka.plain kr.plain g s c) (λ q. z ≡ s)) (sym (plainly x)) tried.tables;
     short = λ e. let wrong = tried.short e in let k : ◌≡◌ {A = ℕ} 0 1 = cc in absurd (omega arith);
   }
   tried_promise say (Err q) plainly tried = record {
@@ -50,7 +51,8 @@ module _ {A R V W X Y : Type 0} (addr : A → V → Type 0) (rests : R → W →
     short = λ e. let is = tried.short e in cc;
   }
 
-  -- the promise of a call, by what its inner function was lent and answered
-  pub promised : {B : Type 0} (say : B → Answer V W) → ((x : B) → refused (say x) ≡ None) → (r : Result B (Refusal V W)) (a : Answer V W) → a ≡ answered say r → (k : Lent) → k ≡ l → Tried addr rests pa pr g s c k say r h z → Promise addr rests pa pr g s c l a h z
-  promised say plainly r a is k lent tried =
-      subst (λ b. Promise addr rests pa pr g s c l b h z) (sym is) (tried_promise say r plainly (subst (λ n. Tried addr rests pa pr g s c n say r h z) lent tried))
+  -- the promise of a call, by what its inner function answered, and what is said of that
+  pub promised : {B : Type 0} (say : B → Answer V W) → ((x : B) → refused (say x) ≡ None) → {says : B → Answer V W → Type 0} → ((x : B) (a : Answer V W) → says x a → a ≡ say x)
+      → (r : Result B (Refusal V W)) (a : Answer V W) → Answers says r a → Tried ka kr g s c l say r h z → Promise ka kr g s c l a h z
+  promised say plainly means (Ok x) a is tried = subst (λ b. Promise ka kr g s c l b h z) (sym (means x a is)) (tried_promise say (Ok x) plainly tried)
+  promised say plainly means (Err e) a is tried = subst (λ b. Promise ka kr g s c l b h z) (sym is) (tried_promise say (Err e) plainly tried)

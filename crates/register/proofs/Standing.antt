@@ -5,6 +5,7 @@ use Rattle.std.specs.List.{remove}
 use Rattle.std.proofs.lemmas.List.Edits.{length-remove}
 use Rattle.std.proofs.lemmas.List.{length_push, take_more_set}
 use Rattle.std.proofs.lemmas.Bool.{cases_lt}
+use Rattle.kinds.specs.declared.kind.Kind.{Ghosts}
 use Rattle.model.specs.Limits.{max_properties}
 use Rattle.model.specs.Properties.{Kept, BreaksFirst}
 use Rattle.model.specs.Record.{Right}
@@ -44,35 +45,35 @@ withdraw_rows g n l long there before after size r tells next =
     let enough = properties_enough l long in
     chosen r (row_out g.property_count n before) before after tells (omega arith, omega arith) next
 
-module _ {A R V W X Y : Type 0} (addr : A → V → Type 0) (rests : R → W → Type 0) (pa : A → X) (pr : R → Y) (g : Register A R) (s : Stored X Y) (t : Tree A R) (pic : Pictures pa pr g s t) (l : Lent) (long : IsTooShort l → ⊥) where
+module _ {A R V W X Y : Type 0} (ka : Ghosts A V X) (kr : Ghosts R W Y) (g : Register A R) (s : Stored X Y) (t : Tree A R) (pic : Pictures ka.plain kr.plain g s t) (l : Lent) (long : IsTooShort l → ⊥) where
   module _ (n : ℕ) where
     abbrev out : Call A R V W
     out = Withdraw n
 
-    out_two : Below addr rests t out l 2
-    out_two = more addr rests t out l 1 (below_one addr rests t out l) long
+    out_two : Below ka.holds kr.holds t out l 2
+    out_two = more ka.holds kr.holds t out l 1 (below_one ka.holds kr.holds t out l) long
 
-    pub withdraw_nothing : g.property_count ≤ n → Right addr rests t out l (Refused NoSuch)
-    withdraw_nothing past = refuse addr rests t out l NoSuch out_two (let count = pic.property_count in omega arith)
+    pub withdraw_nothing : g.property_count ≤ n → Right ka.holds kr.holds t out l (Refused NoSuch)
+    withdraw_nothing past = refuse ka.holds kr.holds t out l NoSuch out_two (let count = pic.property_count in omega arith)
 
     module _ (there : g.property_count ≤ n → ⊥) where
-      pub withdraw_right : Right addr rests t out l Done
+      pub withdraw_right : Right ka.holds kr.holds t out l Done
       withdraw_right =
-          let up = more addr rests t out l in
+          let up = more ka.holds kr.holds t out l in
           let three = up 2 out_two (λ x. there (let count = pic.property_count in omega arith)) in
           let eight = up 7 (up 6 (up 5 (up 4 (up 3 three (λ x. x)) (λ x. x)) (λ x. x tt)) (λ x. x.1)) (λ x. x) in
           let all = up 12 (up 11 (up 10 (up 9 (up 8 eight (λ x. x.1)) (λ x. x.1)) (λ x. x.1)) (λ x. x.2)) (λ x. x.3) in
-          (none addr rests t out l all, refl)
+          (none ka.holds kr.holds t out l all, refl)
 
       pub withdraw_count : g.property_count - 1 ≡ length (remove t.properties n)
       withdraw_count =
           let count = pic.property_count in
           omega (arith, length-remove t.properties n (omega arith))
 
-      pub withdraw_pictures : (after : List (PropertyRow X Y)) → g.property_count ≤ length s.properties → after ≡ row_out g.property_count n s.properties → take (g.property_count - 1) after ≡ map (property_row pa pr) (remove t.properties n)
+      pub withdraw_pictures : (after : List (PropertyRow X Y)) → g.property_count ≤ length s.properties → after ≡ row_out g.property_count n s.properties → take (g.property_count - 1) after ≡ map (property_row ka.plain kr.plain) (remove t.properties n)
       withdraw_pictures after size is =
           ap (take (g.property_count - 1)) is ∙ take_row_out g.property_count n s.properties (omega arith) size
-          ∙ ap (λ ps. remove ps n) pic.properties ∙ sym (map_removed (property_row pa pr) t.properties n)
+          ∙ ap (λ ps. remove ps n) pic.properties ∙ sym (map_removed (property_row ka.plain kr.plain) t.properties n)
 
 module _ {A R V W : Type 0} (addr : A → V → Type 0) (rests : R → W → Type 0) (t : Tree A R) (ps : List (Property A R)) (p : Property A R) where
   -- what stands does not change what breaks a property
@@ -109,49 +110,49 @@ stand_rows g l long room before after size row new is r tells next =
     let enough = properties_enough l long in
     chosen r (set before g.property_count row) before after tells (omega arith, omega arith) next ∙ ap (set before g.property_count) is
 
-module _ {A R V W X Y : Type 0} (addr : A → V → Type 0) (rests : R → W → Type 0) (pa : A → X) (pr : R → Y) (g : Register A R) (s : Stored X Y) (t : Tree A R) (pic : Pictures pa pr g s t) (p : Property A R) (l : Lent) (long : IsTooShort l → ⊥) where
+module _ {A R V W X Y : Type 0} (ka : Ghosts A V X) (kr : Ghosts R W Y) (g : Register A R) (s : Stored X Y) (t : Tree A R) (pic : Pictures ka.plain kr.plain g s t) (p : Property A R) (l : Lent) (long : IsTooShort l → ⊥) where
   abbrev stand : Call A R V W
   stand = Stand p
 
-  stand_two : Below addr rests t stand l 2
-  stand_two = more addr rests t stand l 1 (below_one addr rests t stand l) long
+  stand_two : Below ka.holds kr.holds t stand l 2
+  stand_two = more ka.holds kr.holds t stand l 1 (below_one ka.holds kr.holds t stand l) long
 
-  pub stand_nowhere : NowhereBetween addr rests pa pr g s t pic p stand l → Right addr rests t stand l (Refused NoSuch)
-  stand_nowhere none = refuse addr rests t stand l NoSuch stand_two (nowhere_there addr rests pa pr g s t pic p stand l none)
+  pub stand_nowhere : NowhereBetween ka kr g s t pic p stand l → Right ka.holds kr.holds t stand l (Refused NoSuch)
+  stand_nowhere none = refuse ka.holds kr.holds t stand l NoSuch stand_two (nowhere_there ka kr g s t pic p stand l none)
 
-  module _ (between : NowhereBetween addr rests pa pr g s t pic p stand l → ⊥) where
-    stand_four : Below addr rests t stand l 4
-    stand_four = more addr rests t stand l 3 (more addr rests t stand l 2 stand_two (λ x. between (nowhere_here addr rests pa pr g s t pic p stand l x))) (λ x. x)
+  module _ (between : NowhereBetween ka kr g s t pic p stand l → ⊥) where
+    stand_four : Below ka.holds kr.holds t stand l 4
+    stand_four = more ka.holds kr.holds t stand l 3 (more ka.holds kr.holds t stand l 2 stand_two (λ x. between (nowhere_here ka kr g s t pic p stand l x))) (λ x. x)
 
-    pub stand_full : max_properties < g.property_count + 1 → Right addr rests t stand l (Refused Full)
-    stand_full full = refuse addr rests t stand l Full stand_four (let count = pic.property_count in omega arith)
+    pub stand_full : max_properties < g.property_count + 1 → Right ka.holds kr.holds t stand l (Refused Full)
+    stand_full full = refuse ka.holds kr.holds t stand l Full stand_four (let count = pic.property_count in omega arith)
 
     module _ (room : max_properties < g.property_count + 1 → ⊥) where
-      stand_five : Below addr rests t stand l 5
-      stand_five = more addr rests t stand l 4 stand_four (λ x. room (let count = pic.property_count in omega arith))
+      stand_five : Below ka.holds kr.holds t stand l 5
+      stand_five = more ka.holds kr.holds t stand l 4 stand_four (λ x. room (let count = pic.property_count in omega arith))
 
-      pub stand_misfits : (q : Refusal V W) → Misfits addr rests t p q → Right addr rests t stand l (Refused q)
-      stand_misfits = misfit_right addr rests pa pr g s t pic p stand l stand_five refl (λ b x. x) (λ h. h) (λ h. h)
+      pub stand_misfits : (q : Refusal V W) → Misfits ka.holds kr.holds t p q → Right ka.holds kr.holds t stand l (Refused q)
+      stand_misfits = misfit_right ka kr g s t pic p stand l stand_five refl (λ b x. x) (λ h. h) (λ h. h)
 
-      module _ (fits : Fits addr rests t p) where
-        stand_twelve : Below addr rests t stand l 12
+      module _ (fits : Fits ka.holds kr.holds t p) where
+        stand_twelve : Below ka.holds kr.holds t stand l 12
         stand_twelve =
-            let up = more addr rests t stand l in
-            up 11 (up 10 (fits_below addr rests pa pr g s t pic p stand l stand_five refl (λ b x. x) (λ h. h) (λ h. h) fits) (λ x. x.1)) (λ x. x.2)
+            let up = more ka.holds kr.holds t stand l in
+            up 11 (up 10 (fits_below ka kr g s t pic p stand l stand_five refl (λ b x. x) (λ h. h) (λ h. h) fits) (λ x. x.1)) (λ x. x.2)
 
-        pub stand_breaks : (q : Refusal V W) (f : ℕ) (k : Packet V W) → q ≡ Breaks g.property_count f k → BreaksFirst addr rests t p f k → Right addr rests t stand l (Refused q)
+        pub stand_breaks : (q : Refusal V W) (f : ℕ) (k : Packet V W) → q ≡ Breaks g.property_count f k → BreaksFirst ka.holds kr.holds t p f k → Right ka.holds kr.holds t stand l (Refused q)
         stand_breaks q f k is b =
-            subst (λ z. Right addr rests t stand l (Refused z)) (sym is) (refuse addr rests t stand l (Breaks g.property_count f k) stand_twelve (pic.property_count, breaks_with addr rests t (t.properties ++ (p ∷ [])) p f k b))
+            subst (λ z. Right ka.holds kr.holds t stand l (Refused z)) (sym is) (refuse ka.holds kr.holds t stand l (Breaks g.property_count f k) stand_twelve (pic.property_count, breaks_with ka.holds kr.holds t (t.properties ++ (p ∷ [])) p f k b))
 
-        pub stand_right : Kept addr rests t p → Right addr rests t stand l Done
+        pub stand_right : Kept ka.holds kr.holds t p → Right ka.holds kr.holds t stand l Done
         stand_right kept =
-            (none addr rests t stand l (more addr rests t stand l 12 stand_twelve (λ x. kept_with addr rests t (t.properties ++ (p ∷ [])) p kept x.1 x.2 x.3.1)), refl)
+            (none ka.holds kr.holds t stand l (more ka.holds kr.holds t stand l 12 stand_twelve (λ x. kept_with ka.holds kr.holds t (t.properties ++ (p ∷ [])) p kept x.1 x.2 x.3.1)), refl)
 
-      pub stand_pictures : (after : List (PropertyRow X Y)) → l.properties ≡ length s.properties → after ≡ set s.properties g.property_count (property_row pa pr p) → take (g.property_count + 1) after ≡ map (property_row pa pr) (t.properties ++ (p ∷ []))
+      pub stand_pictures : (after : List (PropertyRow X Y)) → l.properties ≡ length s.properties → after ≡ set s.properties g.property_count (property_row ka.plain kr.plain p) → take (g.property_count + 1) after ≡ map (property_row ka.plain kr.plain) (t.properties ++ (p ∷ []))
       stand_pictures after size is =
           let enough = properties_enough l long in
-          ap (take (g.property_count + 1)) is ∙ take_more_set s.properties g.property_count (property_row pa pr p) (omega arith)
-          ∙ ap (λ ps. ps ++ (property_row pa pr p ∷ [])) pic.properties ∙ sym (map-append (property_row pa pr) t.properties (p ∷ []))
+          ap (take (g.property_count + 1)) is ∙ take_more_set s.properties g.property_count (property_row ka.plain kr.plain p) (omega arith)
+          ∙ ap (λ ps. ps ++ (property_row ka.plain kr.plain p ∷ [])) pic.properties ∙ sym (map-append (property_row ka.plain kr.plain) t.properties (p ∷ []))
 
       pub stand_count : g.property_count + 1 ≡ length (t.properties ++ (p ∷ []))
       stand_count = ap (λ n. n + 1) pic.property_count ∙ sym (length_push t.properties p)

@@ -2,6 +2,7 @@
 use mathlib.Core.HLevel.{is_prop→PathP}
 use Rattle.std.proofs.Common.{◌≡◌, ◌≤◌, IsErrAnd, Ok, Err, Result, sym, refl, ◌∙◌, subst, subst₂}
 use native.Mathlib.Bridge.{le_prop}
+use Rattle.kinds.specs.declared.kind.Kind.{Ghosts}
 use Rattle.model.specs.Limits.{max_blocks, max_properties}
 use Rattle.model.specs.Properties.{Guarded}
 use Rattle.model.specs.Record.{Right}
@@ -42,38 +43,38 @@ module _ {A R V W : Type 0} (addr : A → V → Type 0) (rests : R → W → Typ
   pub reached_guarded : (t : Tree A R) → Reached {V = V} {W = W} addr rests t → Guarded addr rests t
   reached_guarded t (a, r, es, law, is) = subst (Guarded addr rests) (sym is) (guarded_last addr rests (start a r) es law)
 
-module _ {A R V W X Y : Type 0} (addr : A → V → Type 0) (rests : R → W → Type 0) (pa : A → X) (pr : R → Y) {B : Type 0} (c : Call A R V W) (l : Lent) (say : B → Answer V W) (g h : Register A R) (s z : Stored X Y) where
+module _ {A R V W X Y : Type 0} (ka : Ghosts A V X) (kr : Ghosts R W Y) {B : Type 0} (c : Call A R V W) (l : Lent) (say : B → Answer V W) (g h : Register A R) (s z : Stored X Y) where
   -- a refusal that is right, and leaves register and tables as they were
-  pub tried_refused : (IsTooShort l → ⊥) → (e : Refusal V W) → h ≡ g → z ≡ s → ((t : Tree A R) → Reached {V = V} {W = W} addr rests t → Pictures pa pr g s t → Right addr rests t c l (Refused e))
-      → Tried addr rests pa pr g s c l say (Err e) h z
+  pub tried_refused : (IsTooShort l → ⊥) → (e : Refusal V W) → h ≡ g → z ≡ s → ((t : Tree A R) → Reached {V = V} {W = W} ka.holds kr.holds t → Pictures ka.plain kr.plain g s t → Right ka.holds kr.holds t c l (Refused e))
+      → Tried ka kr g s c l say (Err e) h z
   tried_refused long e same kept right = record {
-    turns = λ t reached pic. (right t reached pic, subst₂ (λ x y. Pictures pa pr x y t) (sym same) (sym kept) pic);
+    turns = λ t reached pic. (right t reached pic, subst₂ (λ x y. Pictures ka.plain kr.plain x y t) (sym same) (sym kept) pic);
     register = same;
     tables = kept;
     short = λ x. absurd (long x);
   }
 
   -- the first refusal of all
-  pub tried_short : h ≡ g → z ≡ s → IsTooShort l → Tried addr rests pa pr g s c l say (Err TooShort) h z
+  pub tried_short : h ≡ g → z ≡ s → IsTooShort l → Tried ka kr g s c l say (Err TooShort) h z
   tried_short same kept short = record {
-    turns = λ t reached pic. (refuse addr rests t c l TooShort (below_one addr rests t c l) short, subst₂ (λ x y. Pictures pa pr x y t) (sym same) (sym kept) pic);
+    turns = λ t reached pic. (refuse ka.holds kr.holds t c l TooShort (below_one ka.holds kr.holds t c l) short, subst₂ (λ x y. Pictures ka.plain kr.plain x y t) (sym same) (sym kept) pic);
     register = same;
     tables = kept;
     short = λ x. refl;
   }
 
-module _ {A R V W X Y : Type 0} (addr : A → V → Type 0) (rests : R → W → Type 0) (pa : A → X) (pr : R → Y) {B : Type 0} (c : Call A R V W) (l : Lent) (say : B → Answer V W) (g : Register A R) (s : Stored X Y) where
+module _ {A R V W X Y : Type 0} (ka : Ghosts A V X) (kr : Ghosts R W Y) {B : Type 0} (c : Call A R V W) (l : Lent) (say : B → Answer V W) (g : Register A R) (s : Stored X Y) where
   -- the exit of a check that refuses as q, which is e, before anything has changed
-  pub tried_exit : (q e : Refusal V W) → q ≡ e → (r : Result B (Refusal V W)) → IsErrAnd r (λ y. y ≡ q) → (IsTooShort l → ⊥) → ((t : Tree A R) → Reached {V = V} {W = W} addr rests t → Pictures pa pr g s t → Right addr rests t c l (Refused e))
-      → Tried addr rests pa pr g s c l say r g s
+  pub tried_exit : (q e : Refusal V W) → q ≡ e → (r : Result B (Refusal V W)) → IsErrAnd r (λ y. y ≡ q) → (IsTooShort l → ⊥) → ((t : Tree A R) → Reached {V = V} {W = W} ka.holds kr.holds t → Pictures ka.plain kr.plain g s t → Right ka.holds kr.holds t c l (Refused e))
+      → Tried ka kr g s c l say r g s
   tried_exit q e is (Ok x) no-error long right = absurd no-error
-  tried_exit q e is (Err y) as-q long right = subst (λ z. Tried addr rests pa pr g s c l say (Err z) g s) (sym (as-q ∙ is)) (tried_refused addr rests pa pr c l say g g s s long e refl refl right)
+  tried_exit q e is (Err y) as-q long right = subst (λ z. Tried ka kr g s c l say (Err z) g s) (sym (as-q ∙ is)) (tried_refused ka kr c l say g g s s long e refl refl right)
 
   -- the exit of checks whose refusal is right
-  pub tried_exit_right : (q : Refusal V W) (r : Result B (Refusal V W)) → IsErrAnd r (λ y. y ≡ q) → (IsTooShort l → ⊥) → ((t : Tree A R) → Reached {V = V} {W = W} addr rests t → Pictures pa pr g s t → Right addr rests t c l (Refused q))
-      → Tried addr rests pa pr g s c l say r g s
+  pub tried_exit_right : (q : Refusal V W) (r : Result B (Refusal V W)) → IsErrAnd r (λ y. y ≡ q) → (IsTooShort l → ⊥) → ((t : Tree A R) → Reached {V = V} {W = W} ka.holds kr.holds t → Pictures ka.plain kr.plain g s t → Right ka.holds kr.holds t c l (Refused q))
+      → Tried ka kr g s c l say r g s
   tried_exit_right q = tried_exit q q refl
 
-  pub tried_exit_short : (q : Refusal V W) → q ≡ TooShort → (r : Result B (Refusal V W)) → IsErrAnd r (λ y. y ≡ q) → IsTooShort l → Tried addr rests pa pr g s c l say r g s
+  pub tried_exit_short : (q : Refusal V W) → q ≡ TooShort → (r : Result B (Refusal V W)) → IsErrAnd r (λ y. y ≡ q) → IsTooShort l → Tried ka kr g s c l say r g s
   tried_exit_short q is (Ok x) no-error short = absurd no-error
-  tried_exit_short q is (Err y) as-q short = subst (λ z. Tried addr rests pa pr g s c l say (Err z) g s) (sym (as-q ∙ is)) (tried_short addr rests pa pr c l say g g s s refl refl short)
+  tried_exit_short q is (Err y) as-q short = subst (λ z. Tried ka kr g s c l say (Err z) g s) (sym (as-q ∙ is)) (tried_short ka kr c l say g g s s refl refl short)

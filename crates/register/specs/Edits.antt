@@ -1,10 +1,8 @@
 -- An edit of one firewall's list: what is checked before it is made, and of the list as it would stand.
 use Rattle.std.specs.Prelude.{◌≡◌, ℕ, ◌<◌, ◌≤◌, ◌⊎◌, List, map, length, take, IfOk, Some, Ok, Err, Result}
 use Rattle.std.specs.List.{slice_get}
-use Rattle.kinds.specs.declared.pair.Pair.{Pair}
-use Rattle.kinds.specs.declared.set.SetRow.{SetRow}
+use Rattle.kinds.specs.declared.kind.Kind.{Ghosts}
 use Rattle.search.specs.First.{Nowhere}
-use Rattle.search.specs.declared.list.Entry.{Entry}
 use Rattle.model.specs.Limits.{max_list, max_rules}
 use Rattle.model.specs.Packets.{InWhole, Unmatched, Complete}
 use Rattle.model.specs.Properties.{Kept}
@@ -27,10 +25,6 @@ use Rattle.register.specs.Picture.{Pictures, Reached}
 use Rattle.register.specs.Rows.{Stored, rule_count}
 use Rattle.register.specs.declared.state.Register.{Register}
 
--- the three tables
-abbrev pub stored : {X Y : Type 0} → List (Entry (Pair SetRow (Pair X (Pair X Y)))) → List (Entry X) → List (PropertyRow X Y) → Stored X Y
-stored rules blocks properties = record { rules = rules; blocks = blocks; properties = properties }
-
 -- how long the list of firewall f is
 abbrev pub list_length : {A R : Type 0} → Register A R → ℕ → ℕ
 list_length g f = length_at (lengths_of g.lists) f
@@ -46,10 +40,10 @@ pub record Room {A R : Type 0} (g : Register A R) (f : ℕ) : Type 0 where
   pub list : list_length g f < max_list
   pub all : rule_count g < max_rules
 
-module _ {A R V W X Y : Type 0} (addr : A → V → Type 0) (rests : R → W → Type 0) (pa : A → X) (pr : R → Y) where
+module _ {A R V W X Y : Type 0} (ka : Ghosts A V X) (kr : Ghosts R W Y) where
   -- the checks before the edit: no refusal with a number below n applies, and what is then known; or the right refusal
   pub record Opened {B : Type 0} (g : Register A R) (c : Call A R V W) (l : Lent) (n : ℕ) (known : Type 0) (r : Result B (Refusal V W)) : Type 0 where
-    pub right : (s : Stored X Y) (t : Tree A R) → Reached addr rests t → Pictures pa pr g s t → Checked addr rests t c l n r
+    pub right : (s : Stored X Y) (t : Tree A R) → Reached ka.holds kr.holds t → Pictures ka.plain kr.plain g s t → Checked ka.holds kr.holds t c l n r
     pub fits : IfOk r (λ x. known)
     pub short : IsTooShort l → r ≡ Err TooShort
 
@@ -59,8 +53,8 @@ module _ {A R V W X Y : Type 0} (addr : A → V → Type 0) (rests : R → W →
     pub all_rests : t.rests ≡ g.rests
     pub shape : shape_of g.tree ≡ t.shape
     pub firewall : f < length t.lists
-    pub properties : take g.property_count rows ≡ map (property_row pa pr) t.properties
-    pub kept : (n : ℕ) (p : Property A R) → slice_get t.properties n ≡ Some p → Kept addr rests t p
+    pub properties : take g.property_count rows ≡ map (property_row ka.plain kr.plain) t.properties
+    pub kept : (n : ℕ) (p : Property A R) → slice_get t.properties n ≡ Some p → Kept ka.holds kr.holds t p
 
 -- a search of the list rs with so many frames
 module _ {A R V W : Type 0} (addr : A → V → Type 0) (rests : R → W → Type 0) (t : Tree A R) (rs : List (Rule A R)) (frames : ℕ) where

@@ -1,5 +1,6 @@
 pub mod Order
 pub mod Rows
+pub mod Memory
 pub mod Picture
 pub mod Promise
 pub mod Offers

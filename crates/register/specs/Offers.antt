@@ -1,5 +1,6 @@
 -- A property that is offered, by stand or by ask.
 use Rattle.std.specs.Prelude.{◌≡◌, ℕ, ◌≤◌, ◌⊎◌, length, Ok, Err, Result}
+use Rattle.kinds.specs.Words.{Inside}
 use Rattle.model.specs.Limits.{max_list}
 use Rattle.model.specs.Properties.{IsSourceAstray, IsDestinationAstray, Kept, BreaksFirst}
 use Rattle.model.specs.Refusals.{PropertyInside, Misjoined}
@@ -10,6 +11,10 @@ use Rattle.model.specs.declared.rules.Packet.{Packet}
 use Rattle.model.specs.declared.rules.Property.{Property}
 
 module _ {A R V W : Type 0} (addr : A → V → Type 0) (rests : R → W → Type 0) where
+  -- a source, a destination and a rest that lie inside these wholes
+  abbrev pub RegionsInside : A → R → A → A → R → Type 0
+  RegionsInside addresses others source destination rest = Inside (addr source) (addr addresses) × (Inside (addr destination) (addr addresses) × Inside (rests rest) (rests others))
+
   -- what the search of the blocks says of an offered property; too short only where there are no more frames than blocks
   abbrev pub SourceChecked : Tree A R → Property A R → ℕ → Result (Unit {0}) (Refusal V W) → Type 0
   SourceChecked t p frames (Ok x) = (a : V) → IsSourceAstray addr rests t p a → ⊥

@@ -1,5 +1,6 @@
 -- When a register and its tables picture a tree, and what a call does.
 use Rattle.std.specs.Prelude.{◌≡◌, ℕ, List, map, length, take, Some, None, Ok, Err, Option, Result}
+use Rattle.kinds.specs.declared.kind.Kind.{Ghosts}
 use Rattle.model.specs.Record.{plain, then_tree, Right, Lawful}
 use Rattle.model.specs.Refusals.{IsTooShort}
 use Rattle.model.specs.Tree.{Tree}
@@ -34,6 +35,11 @@ abbrev pub answered : {B V W : Type 0} → (B → Answer V W) → Result B (Refu
 answered say (Ok x) = say x
 answered say (Err e) = Refused e
 
+-- the same, where `say x a` says that a is the answer to x
+abbrev pub Answers : {B V W : Type 0} → (B → Answer V W → Type 0) → Result B (Refusal V W) → Answer V W → Type 0
+Answers say (Ok x) a = say x a
+Answers say (Err e) a = a ≡ Refused e
+
 -- the answer of attach, with both new numbers
 abbrev pub attached_as : {V W : Type 0} → ℕ × ℕ → Answer V W
 attached_as made = Attached made.0 made.1
@@ -47,11 +53,11 @@ asked_as (Some b) = Broken b.firewall b.packet
 abbrev pub Reached : {A R V W : Type 0} → (A → V → Type 0) → (R → W → Type 0) → Tree A R → Type 0
 Reached {A} {R} {V} {W} addr rests t = (a : A) × (r : R) × (es : List (Recorded A R V W)) × Lawful addr rests a r es × (t ≡ plain a r es)
 
-module _ {A R V W X Y : Type 0} (addr : A → V → Type 0) (rests : R → W → Type 0) (pa : A → X) (pr : R → Y) where
+module _ {A R V W X Y : Type 0} (ka : Ghosts A V X) (kr : Ghosts R W Y) where
   -- the answer to a call is right in every tree that is reached and pictured before it, and the tree after it is pictured then
   abbrev pub Turns : Register A R → Stored X Y → Call A R V W → Lent → Answer V W → Register A R → Stored X Y → Type 0
-  Turns g s c l a h z = (t : Tree A R) → Reached addr rests t → Pictures pa pr g s t
-      → Right addr rests t c l a × Pictures pa pr h z (then_tree t (record { call = c; lent = l; answer = a }))
+  Turns g s c l a h z = (t : Tree A R) → Reached ka.holds kr.holds t → Pictures ka.plain kr.plain g s t
+      → Right ka.holds kr.holds t c l a × Pictures ka.plain kr.plain h z (then_tree t (record { call = c; lent = l; answer = a }))
 
   -- the register after a refusal, and the tables after any answer
   abbrev pub RegisterKept : {B : Type 0} → Result B (Refusal V W) → Register A R → Register A R → Type 0
@@ -59,7 +65,7 @@ module _ {A R V W X Y : Type 0} (addr : A → V → Type 0) (rests : R → W →
   RegisterKept (Err e) g h = h ≡ g
 
   abbrev pub TablesAre : {B : Type 0} → Result B (Refusal V W) → Register A R → Stored X Y → Call A R V W → Stored X Y → Type 0
-  TablesAre (Ok x) g s c z = z ≡ stored_after pa pr g s c
+  TablesAre (Ok x) g s c z = z ≡ stored_after ka.plain kr.plain g s c
   TablesAre (Err e) g s c z = z ≡ s
 
   -- what a call does that answers by a result

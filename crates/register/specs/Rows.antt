@@ -1,10 +1,9 @@
 -- What the tables hold, and what a call that is not refused leaves in them, row by row.
-use Rattle.std.specs.Prelude.{ℕ, ◌+◌, List, length, sum, slice_set}
+use Rattle.std.specs.Prelude.{ℕ, ◌+◌, List, sum, slice_set}
 use Rattle.kinds.specs.declared.pair.Pair.{Pair}
 use Rattle.kinds.specs.declared.set.SetRow.{SetRow}
 use Rattle.search.specs.declared.list.Entry.{Entry}
 use Rattle.model.specs.Tree.{all_interfaces}
-use Rattle.model.specs.declared.answers.Lent.{Lent}
 use Rattle.model.specs.declared.calls.Call.{Call}
 use Rattle.model.specs.declared.calls.Call.TheVariants.{Attach, Branch, Give, Take, Place, Alter, Lift, Stand, Withdraw, Ask, Send}
 use Rattle.model.specs.declared.rules.Decision.{Decision}
@@ -23,10 +22,6 @@ pub record Stored (X Y : Type 0) : Type 0 where
 
 abbrev pub stored : {X Y : Type 0} → List (Entry (Pair SetRow (Pair X (Pair X Y)))) → List (Entry X) → List (PropertyRow X Y) → Stored X Y
 stored rules blocks properties = record { rules = rules; blocks = blocks; properties = properties }
-
--- the lengths of the slices lent
-abbrev pub lent_of : {B C D E F : Type 0} → List B → List C → List D → List E → List F → Lent
-lent_of rules blocks properties packets addresses = record { rules = length rules; blocks = length blocks; properties = length properties; packet_frames = length packets; address_frames = length addresses }
 
 abbrev pub with_rules : {X Y : Type 0} → Stored X Y → List (Entry (Pair SetRow (Pair X (Pair X Y)))) → Stored X Y
 with_rules s rows = record { rules = rows; blocks = s.blocks; properties = s.properties }

@@ -1,6 +1,6 @@
 // Any call, by its value.
+ghost use Rattle.register.specs.Memory.{SameMemory, lent_by, tables_of};
 ghost use Rattle.register.specs.Promise.{Promise};
-ghost use Rattle.register.specs.Rows.{stored, lent_of};
 
 use crate::memory::Memory;
 use crate::state::Register;
@@ -11,26 +11,12 @@ impl<A: Kind, R: Kind> Register<A, R> {
     // Makes the call, and answers what it answers.
     pub fn apply(
         &mut self,
-        memory: Memory<'_, A::Row, R::Row>,
+        memory: &mut Memory<'_, A::Row, R::Row>,
         call: Call<A, R, A::Value, R::Value>,
     ) -> Answer<A::Value, R::Value>
-        ensures { Promise A.Kind.holds R.Kind.holds A.Kind.plain R.Kind.plain self.old (stored memory.entry.rules.now memory.entry.blocks.now memory.entry.properties.now) call (lent_of memory.entry.rules.now memory.entry.blocks.now memory.entry.properties.now memory.entry.packet_frames.now memory.entry.address_frames.now) result self.new (stored memory.exit.0.now memory.exit.1.0.now memory.exit.1.1.0.now) }
+        ensures promise { Promise A.Kind R.Kind self.old (tables_of memory.old) call (lent_by memory.old) result self.new (tables_of memory.new) }
+        ensures same { SameMemory memory.old memory.new }
     {
-        // Memory that is lent on whole gets no proof, so it is taken apart first.
-        let Memory {
-            rules,
-            blocks,
-            properties,
-            packet_frames,
-            address_frames,
-        } = memory;
-        let memory = Memory {
-            rules,
-            blocks,
-            properties,
-            packet_frames,
-            address_frames,
-        };
         match call {
             Call::Attach {
                 domain,

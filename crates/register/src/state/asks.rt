@@ -1,19 +1,16 @@
 // What is asked of the register.
-ghost use Rattle.std.specs.Prelude.{◌≡◌, List, length};
-ghost use Rattle.checks.specs.declared.rows.PropertyRow.{PropertyRow};
+ghost use Rattle.std.specs.Prelude.{◌≡◌};
 ghost use Rattle.model.specs.declared.answers.Refusal.TheVariants.{Outside};
 ghost use Rattle.model.specs.declared.calls.Call.TheVariants.{Ask, Send};
+ghost use Rattle.register.specs.Memory.{SameMemory, lent_by, tables_of};
 ghost use Rattle.register.specs.Order.{Demands};
 ghost use Rattle.register.specs.Picture.{Tried, asked_as};
 ghost use Rattle.verdicts.specs.Passage.{passage_answer};
-ghost use Rattle.register.specs.Rows.{stored};
 
 use super::Register;
-use super::refusals::check_lengths;
-use checks::{BlockRow, PacketRow, RuleRow};
+use crate::memory::Memory;
 use kinds::Kind;
-use model::{Header, Lent, Property, Refusal};
-use search::Frame;
+use model::{Header, Property, Refusal};
 use tables::used_rows;
 use verdicts::{Break, Passage, first_break, passage_of};
 
@@ -21,28 +18,20 @@ impl<A: Kind, R: Kind> Register<A, R> {
     // What breaks a property, if anything does.
     pub(crate) fn try_ask(
         &self,
-        lent: Lent,
-        rules: &[RuleRow<A::Row, R::Row>],
-        blocks: &[BlockRow<A::Row>],
-        packet_frames: &mut [Frame<PacketRow<A::Row, R::Row>>],
-        address_frames: &mut [Frame<A::Row>],
+        memory: &mut Memory<'_, A::Row, R::Row>,
         property: Property<A, R>,
     ) -> Result<Option<Break<A::Value, R::Value>>, Refusal<A::Value, R::Value>>
-        requires packets { lent.packet_frames ≡ length packet_frames.old }
-        requires addresses { lent.address_frames ≡ length address_frames.old }
-        ensures { (properties : List (PropertyRow A.Row R.Row)) → Tried A.Kind.holds R.Kind.holds A.Kind.plain R.Kind.plain self.now (stored rules.now blocks.now properties) (Ask property) lent asked_as result self.now (stored rules.now blocks.now properties) }
+        ensures does { Tried A.Kind R.Kind self.now (tables_of memory.old) (Ask property) (lent_by memory.old) asked_as result self.now (tables_of memory.new) }
+        ensures same { SameMemory memory.old memory.new }
     {
-        check_lengths(lent)?;
+        memory.check_lengths()?;
         self.check_between(property)?;
-        self.check_offer(
-            used_rows(blocks, self.block_count),
-            address_frames,
-            property,
-        )?;
-        match first_break(&self.tree, &self.lists, rules, property, packet_frames) {
-            Err(_) => Err(Refusal::TooShort),
-            Ok(found) => Ok(found),
-        }
+        let rules = &mut *memory.rules;
+        let blocks = &mut *memory.blocks;
+        let packet_frames = &mut *memory.packet_frames;
+        let address_frames = &mut *memory.address_frames;
+        self.check_offer(blocks, address_frames, property)?;
+        Ok(first_break(&self.tree, &self.lists, rules, property, packet_frames)?)
     }
 
     // 5: every part of the packet is in its whole.
@@ -64,16 +53,14 @@ impl<A: Kind, R: Kind> Register<A, R> {
     // What becomes of a packet on its way.
     pub(crate) fn try_send(
         &self,
-        lent: Lent,
-        rules: &[RuleRow<A::Row, R::Row>],
-        blocks: &[BlockRow<A::Row>],
+        memory: &Memory<'_, A::Row, R::Row>,
         header: Header<A::Value, R::Value>,
     ) -> Result<Passage, Refusal<A::Value, R::Value>>
-        ensures { (properties : List (PropertyRow A.Row R.Row)) → Tried A.Kind.holds R.Kind.holds A.Kind.plain R.Kind.plain self.now (stored rules.now blocks.now properties) (Send header) lent passage_answer result self.now (stored rules.now blocks.now properties) }
+        ensures { Tried A.Kind R.Kind self.now (tables_of memory.now) (Send header) (lent_by memory.now) passage_answer result self.now (tables_of memory.now) }
     {
-        check_lengths(lent)?;
+        memory.check_lengths()?;
         self.check_header_inside(header)?;
-        let used = used_rows(blocks, self.block_count);
-        Ok(passage_of::<A, R>(&self.tree, &self.lists, rules, used, header))
+        let used = used_rows(memory.blocks, self.block_count);
+        Ok(passage_of::<A, R>(&self.tree, &self.lists, memory.rules, used, header))
     }
 }

@@ -2,22 +2,26 @@
 ghost use Rattle.std.specs.Prelude.{◌≡◌, ◌<◌, ◌≤◌, ◌⊎◌, List, map, length, take};
 ghost use Rattle.model.specs.Shape.{Domain};
 ghost use Rattle.model.specs.Tree.{Tree, Block};
+ghost use Rattle.model.specs.declared.answers.Answer.TheVariants.{Done};
 ghost use Rattle.model.specs.declared.answers.Refusal.TheVariants.{NoSuch};
 ghost use Rattle.model.specs.declared.calls.Call.TheVariants.{Give, Take};
 ghost use Rattle.tree.specs.Table.{shape_of};
 ghost use Rattle.checks.specs.Addresses.{OwnedApart};
 ghost use Rattle.checks.specs.Rows.{block_entry, property_row};
-ghost use Rattle.register.specs.Blocks.{ApartFrom, AllPlaced, EditsBlocks};
+ghost use Rattle.register.specs.Blocks.{ApartFrom, AllPlaced};
+ghost use Rattle.register.specs.Memory.{SameMemory, lent_by, tables_of};
 ghost use Rattle.register.specs.Order.{Refuses};
+ghost use Rattle.register.specs.Picture.{Tried};
 
 use super::Register;
-use super::refusals::{check_inside, check_lengths, check_number, check_room};
+use super::refusals::{check_inside, check_number, check_room};
+use crate::memory::Memory;
 use crate::slots::{read_slot, write_slot};
 use checks::{BlockRow, PropertyRow, block_row};
 use kinds::Kind;
-use model::{Lent, MAX_BLOCKS, Refusal};
+use model::{MAX_BLOCKS, Refusal};
 use search::Frame;
-use tables::{insert_row, remove_row};
+use tables::{insert_row, remove_row, used_rows};
 use tree::TreeTable;
 use verdicts::{first_misplaced, first_overlap};
 
@@ -37,10 +41,9 @@ fn check_apart<A: Kind, W>(
     used: usize,
     region: A,
 ) -> Result<(), Refusal<A::Value, W>>
-    requires { used ≤ length blocks.now }
     ensures { (bs : List (Block A)) → take used blocks.now ≡ map (block_entry A.Kind.plain) bs → ApartFrom A.Kind.holds bs region result }
 {
-    match first_overlap(&blocks[0..used], region) {
+    match first_overlap(used_rows(blocks, used), region) {
         Some(block) => Err(Refusal::Overlap { block }),
         None => Ok(()),
     }
@@ -54,19 +57,17 @@ fn check_placed<A: Kind, R: Kind>(
     standing: usize,
     frames: &mut [Frame<A::Row>],
 ) -> Result<(), Refusal<A::Value, R::Value>>
-    requires { (used ≤ length blocks.now) × ((standing ≤ length properties.now) × (used < length frames.old)) }
+    requires { used < length frames.old }
     ensures { (t : Tree A R) → OwnedApart A.Kind.holds t.blocks → take used blocks.now ≡ map (block_entry A.Kind.plain) t.blocks → take standing properties.now ≡ map (property_row A.Kind.plain R.Kind.plain) t.properties → AllPlaced A.Kind.holds R.Kind.holds t result }
 {
-    let rows = &blocks[0..used];
-    let Ok(found) = first_misplaced::<A, R>(rows, &properties[0..standing], frames) else {
-        return Err(Refusal::TooShort);
-    };
-    match found {
-        None => Ok(()),
+    let blocks = used_rows(blocks, used);
+    let properties = used_rows(properties, standing);
+    match first_misplaced::<A, R>(blocks, properties, frames)? {
         Some(astray) => Err(Refusal::Misplaced {
             property: astray.property,
             address: astray.address,
         }),
+        None => Ok(()),
     }
 }
 
@@ -74,26 +75,25 @@ impl<A: Kind, R: Kind> Register<A, R> {
     // Gives a block of addresses to a domain.
     pub(crate) fn try_give(
         &mut self,
-        lent: Lent,
-        blocks: &mut [BlockRow<A::Row>],
-        properties: &[PropertyRow<A::Row, R::Row>],
-        frames: &mut [Frame<A::Row>],
+        memory: &mut Memory<'_, A::Row, R::Row>,
         domain: usize,
         region: A,
     ) -> Result<(), Refusal<A::Value, R::Value>>
-        requires blocks { lent.blocks ≡ length blocks.old }
-        requires properties { lent.properties ≡ length properties.now }
-        requires frames { lent.address_frames ≡ length frames.old }
-        ensures { EditsBlocks A.Kind.holds R.Kind.holds A.Kind.plain R.Kind.plain self.old blocks.old properties.now (Give domain region) lent result self.new blocks.new }
+        ensures does { Tried A.Kind R.Kind self.old (tables_of memory.old) (Give domain region) (lent_by memory.old) (λ _. Done) result self.new (tables_of memory.new) }
+        ensures same { SameMemory memory.old memory.new }
     {
-        check_lengths(lent)?;
+        memory.check_lengths()?;
         check_owner(&self.tree, domain)?;
         let used = self.block_count;
         check_room(used, MAX_BLOCKS)?;
         check_inside(region, self.addresses)?;
+        let row = block_row(region, domain as u32);
+        let blocks = &mut *memory.blocks;
         check_apart(blocks, used, region)?;
+        let properties = &mut *memory.properties;
+        let frames = &mut *memory.address_frames;
         let old = read_slot(blocks, used);
-        write_slot(blocks, used, block_row(region, domain as u32));
+        write_slot(blocks, used, row);
         match check_placed::<A, R>(blocks, used + 1, properties, self.property_count, frames) {
             Ok(()) => {
                 self.block_count = used + 1;
@@ -109,20 +109,18 @@ impl<A: Kind, R: Kind> Register<A, R> {
     // Takes a block from its domain.
     pub(crate) fn try_take(
         &mut self,
-        lent: Lent,
-        blocks: &mut [BlockRow<A::Row>],
-        properties: &[PropertyRow<A::Row, R::Row>],
-        frames: &mut [Frame<A::Row>],
+        memory: &mut Memory<'_, A::Row, R::Row>,
         block: usize,
     ) -> Result<(), Refusal<A::Value, R::Value>>
-        requires blocks { lent.blocks ≡ length blocks.old }
-        requires properties { lent.properties ≡ length properties.now }
-        requires frames { lent.address_frames ≡ length frames.old }
-        ensures { EditsBlocks A.Kind.holds R.Kind.holds A.Kind.plain R.Kind.plain self.old blocks.old properties.now (Take block) lent result self.new blocks.new }
+        ensures does { Tried A.Kind R.Kind self.old (tables_of memory.old) (Take block) (lent_by memory.old) (λ _. Done) result self.new (tables_of memory.new) }
+        ensures same { SameMemory memory.old memory.new }
     {
-        check_lengths(lent)?;
+        memory.check_lengths()?;
         let used = self.block_count;
         check_number(block, used)?;
+        let blocks = &mut *memory.blocks;
+        let properties = &mut *memory.properties;
+        let frames = &mut *memory.address_frames;
         let old = read_slot(blocks, block);
         remove_row(blocks, used, block);
         match check_placed::<A, R>(blocks, used - 1, properties, self.property_count, frames) {

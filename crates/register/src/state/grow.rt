@@ -1,19 +1,19 @@
 // How the tree grows.
-ghost use Rattle.std.specs.Prelude.{◌≡◌, List, length};
+ghost use Rattle.std.specs.Prelude.{◌≡◌};
 ghost use Rattle.model.specs.Tree.{all_interfaces};
 ghost use Rattle.model.specs.declared.answers.Answer.TheVariants.{Branched};
 ghost use Rattle.model.specs.declared.calls.Call.TheVariants.{Attach, Branch};
+ghost use Rattle.register.specs.Memory.{SameMemory, lent_by, tables_of};
 ghost use Rattle.register.specs.Order.{refusal_of};
 ghost use Rattle.register.specs.Picture.{Tried, attached_as};
-ghost use Rattle.checks.specs.declared.rows.PropertyRow.{PropertyRow};
-ghost use Rattle.register.specs.Rows.{Stored, stored, catch_all};
-ghost use Rattle.search.specs.declared.list.Entry.{Entry};
+ghost use Rattle.register.specs.Rows.{catch_all};
 
 use super::Register;
-use super::refusals::{check_interfaces, check_lengths};
-use checks::{RuleRow, rule_row};
+use super::refusals::check_interfaces;
+use crate::memory::Memory;
+use checks::rule_row;
 use kinds::{Kind, Set};
-use model::{Decision, Lent, Refusal, Rule};
+use model::{Decision, Refusal, Rule};
 use tables::replace_row;
 use tree::TreeRefusal;
 
@@ -28,14 +28,12 @@ fn refusal_of<V, W>(refusal: TreeRefusal) -> Refusal<V, W>
     }
 }
 
-// All of 0 to 31.
+// All of 0 to 31. Of `Set::up_to(31)` it is known what it holds, but not that it is this mask.
+#[tactic(auto, using(crate::proofs::Attaching::reads_all))]
 fn every_interface() -> Set
     ensures { result ≡ all_interfaces }
 {
-    match Set::new(u32::MAX) {
-        Some(all) => all,
-        None => unreachable(),
-    }
+    Set::new(u32::MAX).unwrap()
 }
 
 impl<A: Kind, R: Kind> Register<A, R> {
@@ -56,17 +54,16 @@ impl<A: Kind, R: Kind> Register<A, R> {
     // below that; the numbers of the two.
     pub(crate) fn try_attach(
         &mut self,
-        lent: Lent,
-        rules: &mut [RuleRow<A::Row, R::Row>],
+        memory: &mut Memory<'_, A::Row, R::Row>,
         domain: usize,
         upper: u32,
         lower: u32,
         decision: Decision,
     ) -> Result<(usize, usize), Refusal<A::Value, R::Value>>
-        requires { lent.rules ≡ length rules.old }
-        ensures { (blocks : List (Entry A.Row)) (properties : List (PropertyRow A.Row R.Row)) → Tried A.Kind.holds R.Kind.holds A.Kind.plain R.Kind.plain self.old (stored rules.old blocks properties) (Attach domain upper lower decision) lent attached_as result self.new (stored rules.new blocks properties) }
+        ensures does { Tried A.Kind R.Kind self.old (tables_of memory.old) (Attach domain upper lower decision) (lent_by memory.old) attached_as result self.new (tables_of memory.new) }
+        ensures same { SameMemory memory.old memory.new }
     {
-        check_lengths(lent)?;
+        memory.check_lengths()?;
         self.check_domain(domain)?;
         check_interfaces(upper, lower)?;
         self.check_attach_room()?;
@@ -75,8 +72,8 @@ impl<A: Kind, R: Kind> Register<A, R> {
         match self.tree.attach(domain, upper, lower) {
             Err(refusal) => Err(refusal_of(refusal)),
             Ok(made) => {
-                let rows = rules.len();
-                replace_row(rules, rows, total, row);
+                let rows = memory.rules.len();
+                replace_row(memory.rules, rows, total, row);
                 self.lists.add();
                 Ok(made)
             }
@@ -86,13 +83,13 @@ impl<A: Kind, R: Kind> Register<A, R> {
     // Hangs the next domain below a firewall.
     pub(crate) fn try_branch(
         &mut self,
-        lent: Lent,
+        memory: &Memory<'_, A::Row, R::Row>,
         firewall: usize,
         interface: u32,
     ) -> Result<usize, Refusal<A::Value, R::Value>>
-        ensures { (s : Stored A.Row R.Row) → Tried A.Kind.holds R.Kind.holds A.Kind.plain R.Kind.plain self.old s (Branch firewall interface) lent Branched result self.new s }
+        ensures { Tried A.Kind R.Kind self.old (tables_of memory.now) (Branch firewall interface) (lent_by memory.now) Branched result self.new (tables_of memory.now) }
     {
-        check_lengths(lent)?;
+        memory.check_lengths()?;
         match self.tree.branch(firewall, interface) {
             Ok(domain) => Ok(domain),
             Err(refusal) => Err(refusal_of(refusal)),

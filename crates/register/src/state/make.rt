@@ -11,7 +11,7 @@ use tree::TreeTable;
 impl<A: Kind, R: Kind> Register<A, R> {
     // Domain 0 alone, in these wholes. The tables may hold anything.
     pub fn new(addresses: A, rests: R) -> Register<A, R>
-        ensures { (s : Stored A.Row R.Row) → Tells A.Kind.holds R.Kind.holds A.Kind.plain R.Kind.plain addresses rests [] result s }
+        ensures { (s : Stored A.Row R.Row) → Tells A.Kind R.Kind addresses rests [] result s }
     {
         Register {
             addresses,

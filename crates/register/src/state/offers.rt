@@ -1,21 +1,21 @@
 // The checks of a property that is offered, by stand or by ask.
-ghost use Rattle.std.specs.Prelude.{◌≡◌, ◌⊎◌, map, length};
+ghost use Rattle.std.specs.Prelude.{◌≡◌, ◌⊎◌, map, length, take};
 ghost use Rattle.checks.specs.Addresses.{OwnedApart};
 ghost use Rattle.checks.specs.Rows.{block_entry};
-ghost use Rattle.kinds.specs.Words.{Inside};
 ghost use Rattle.model.specs.Refusals.{Misjoined};
 ghost use Rattle.model.specs.Shape.{Domain};
 ghost use Rattle.model.specs.Tree.{Tree};
-ghost use Rattle.model.specs.declared.answers.Refusal.TheVariants.{NoSuch, Outside, Unjoined};
+ghost use Rattle.model.specs.declared.answers.Refusal.TheVariants.{NoSuch, Unjoined};
 ghost use Rattle.tree.specs.Table.{shape_of};
 ghost use Rattle.register.specs.Offers.{SourceChecked, DestinationChecked, OfferChecked};
-ghost use Rattle.register.specs.Order.{Refuses, Demands};
+ghost use Rattle.register.specs.Order.{Refuses};
 
 use super::Register;
 use checks::{BlockRow, find_foreign};
 use kinds::Kind;
 use model::{Decision, Property, Refusal};
-use search::{Frame, lies_inside};
+use search::Frame;
+use tables::used_rows;
 use verdicts::source_astray;
 
 // 8: every address of the source is of its domain. The source of discard is free.
@@ -26,12 +26,9 @@ fn check_source<A: Kind, R: Kind>(
 ) -> Result<(), Refusal<A::Value, R::Value>>
     ensures { (t : Tree A R) → OwnedApart A.Kind.holds t.blocks → blocks.now ≡ map (block_entry A.Kind.plain) t.blocks → SourceChecked A.Kind.holds R.Kind.holds t property (length frames.old) result }
 {
-    match source_astray(blocks, property, frames) {
-        Err(_) => Err(Refusal::TooShort),
-        Ok(found) => match found {
-            Some(address) => Err(Refusal::SourceAstray { address }),
-            None => Ok(()),
-        },
+    match source_astray(blocks, property, frames)? {
+        Some(address) => Err(Refusal::SourceAstray { address }),
+        None => Ok(()),
     }
 }
 
@@ -43,12 +40,9 @@ fn check_destination<A: Kind, R: Kind>(
 ) -> Result<(), Refusal<A::Value, R::Value>>
     ensures { (t : Tree A R) → OwnedApart A.Kind.holds t.blocks → blocks.now ≡ map (block_entry A.Kind.plain) t.blocks → DestinationChecked A.Kind.holds R.Kind.holds t property (length frames.old) result }
 {
-    match find_foreign::<A, R>(blocks, property.destination, property.to, frames) {
-        Err(_) => Err(Refusal::TooShort),
-        Ok(found) => match found {
-            Some(address) => Err(Refusal::DestinationAstray { address }),
-            None => Ok(()),
-        },
+    match find_foreign::<A, R>(blocks, property.destination, property.to, frames)? {
+        Some(address) => Err(Refusal::DestinationAstray { address }),
+        None => Ok(()),
     }
 }
 
@@ -67,22 +61,6 @@ impl<A: Kind, R: Kind> Register<A, R> {
         Ok(())
     }
 
-    // 5: its regions lie inside the wholes.
-    fn check_property_inside(
-        &self,
-        property: Property<A, R>,
-    ) -> Result<(), Refusal<A::Value, R::Value>>
-        ensures { Demands result Outside (Inside (A.Kind.holds property.source) (A.Kind.holds self.now.addresses) × (Inside (A.Kind.holds property.destination) (A.Kind.holds self.now.addresses) × Inside (R.Kind.holds property.rest) (R.Kind.holds self.now.rests))) }
-    {
-        if lies_inside(property.source, self.addresses)
-            && lies_inside(property.destination, self.addresses)
-            && lies_inside(property.rest, self.rests)
-        {
-            return Ok(());
-        }
-        Err(Refusal::Outside)
-    }
-
     // 7: its domains differ and, for discard, share a firewall.
     fn check_joined(&self, property: Property<A, R>) -> Result<(), Refusal<A::Value, R::Value>>
         ensures { Refuses result Unjoined (Misjoined (shape_of self.now.tree) property) }
@@ -92,6 +70,7 @@ impl<A: Kind, R: Kind> Register<A, R> {
         }
         match property.sort {
             Decision::Accept => Ok(()),
+            // `ok_or` is no plainer, since the firewall itself is dropped.
             Decision::Discard => match self.tree.shared_firewall(property.from, property.to) {
                 Some(_) => Ok(()),
                 None => Err(Refusal::Unjoined),
@@ -99,18 +78,19 @@ impl<A: Kind, R: Kind> Register<A, R> {
         }
     }
 
-    // 5, 7, 8 and 9, in this order.
+    // 5, 7, 8 and 9, in this order, over the used blocks.
     pub(crate) fn check_offer(
         &self,
         blocks: &[BlockRow<A::Row>],
         frames: &mut [Frame<A::Row>],
         property: Property<A, R>,
     ) -> Result<(), Refusal<A::Value, R::Value>>
-        ensures { (t : Tree A R) → self.now.addresses ≡ t.addresses → self.now.rests ≡ t.rests → shape_of self.now.tree ≡ t.shape → OwnedApart A.Kind.holds t.blocks → blocks.now ≡ map (block_entry A.Kind.plain) t.blocks → OfferChecked A.Kind.holds R.Kind.holds t property (length frames.old) result }
+        ensures { (t : Tree A R) → self.now.addresses ≡ t.addresses → self.now.rests ≡ t.rests → shape_of self.now.tree ≡ t.shape → OwnedApart A.Kind.holds t.blocks → take self.now.block_count blocks.now ≡ map (block_entry A.Kind.plain) t.blocks → OfferChecked A.Kind.holds R.Kind.holds t property (length frames.old) result }
     {
-        self.check_property_inside(property)?;
+        self.check_regions_inside(property.source, property.destination, property.rest)?;
         self.check_joined(property)?;
-        check_source(blocks, frames, property)?;
-        check_destination(blocks, frames, property)
+        let used = used_rows(blocks, self.block_count);
+        check_source(used, frames, property)?;
+        check_destination(used, frames, property)
     }
 }

@@ -2,35 +2,17 @@
 ghost use Rattle.std.specs.Prelude.{◌≡◌, suc, ◌+◌, ◌<◌, ◌≤◌, ◌⊎◌, length};
 ghost use Rattle.kinds.specs.Words.{Inside};
 ghost use Rattle.model.specs.Limits.{max_domains, max_interfaces, max_rules};
-ghost use Rattle.model.specs.Refusals.{IsTooShort};
 ghost use Rattle.model.specs.Shape.{Domain};
-ghost use Rattle.model.specs.declared.answers.Refusal.TheVariants.{TooShort, NoSuch, BadInterface, Full, Outside};
+ghost use Rattle.model.specs.declared.answers.Refusal.TheVariants.{NoSuch, BadInterface, Full, Outside};
 ghost use Rattle.tree.specs.Table.{shape_of};
-ghost use Rattle.register.specs.Order.{Refuses};
+ghost use Rattle.register.specs.Offers.{RegionsInside};
+ghost use Rattle.register.specs.Order.{Demands, Refuses};
 ghost use Rattle.register.specs.Rows.{rule_count};
 
 use super::Register;
 use kinds::Kind;
-use model::{
-    Lent, MAX_BLOCKS, MAX_DOMAINS, MAX_INTERFACES, MAX_PROPERTIES, MAX_RULES, MIN_ADDRESS_FRAMES,
-    MIN_PACKET_FRAMES, Refusal,
-};
+use model::{MAX_DOMAINS, MAX_INTERFACES, MAX_RULES, Refusal};
 use search::lies_inside;
-
-// 1: the slices lent are long enough.
-pub(crate) fn check_lengths<V, W>(lent: Lent) -> Result<(), Refusal<V, W>>
-    ensures { Refuses result TooShort (IsTooShort lent) }
-{
-    if lent.rules < MAX_RULES
-        || lent.blocks < MAX_BLOCKS
-        || lent.properties < MAX_PROPERTIES
-        || lent.packet_frames < MIN_PACKET_FRAMES
-        || lent.address_frames < MIN_ADDRESS_FRAMES
-    {
-        return Err(Refusal::TooShort);
-    }
-    Ok(())
-}
 
 // 2: there is something with this number, of those that there are.
 pub(crate) fn check_number<V, W>(number: usize, count: usize) -> Result<(), Refusal<V, W>>
@@ -91,5 +73,25 @@ impl<A, R> Register<A, R> {
             return Err(Refusal::Full);
         }
         Ok(())
+    }
+}
+
+impl<A: Kind, R: Kind> Register<A, R> {
+    // 5: the three regions of a rule or of a property lie inside the wholes.
+    pub(crate) fn check_regions_inside(
+        &self,
+        source: A,
+        destination: A,
+        rest: R,
+    ) -> Result<(), Refusal<A::Value, R::Value>>
+        ensures { Demands result Outside (RegionsInside A.Kind.holds R.Kind.holds self.now.addresses self.now.rests source destination rest) }
+    {
+        if lies_inside(source, self.addresses)
+            && lies_inside(destination, self.addresses)
+            && lies_inside(rest, self.rests)
+        {
+            return Ok(());
+        }
+        Err(Refusal::Outside)
     }
 }

@@ -1,29 +1,28 @@
 // Edits of one firewall's list of rules.
 ghost use Rattle.std.specs.Prelude.{◌≡◌, ℕ, suc, ◌+◌, ◌-◌, ◌<◌, ◌≤◌, ◌⊎◌, List, map, length, sum};
-ghost use Rattle.search.specs.declared.list.Entry.{Entry};
 ghost use Rattle.model.specs.Limits.{max_list, max_properties, max_rules};
-ghost use Rattle.model.specs.Refusals.{RuleInside};
 ghost use Rattle.model.specs.Shape.{Firewall};
 ghost use Rattle.model.specs.Tree.{Tree};
 ghost use Rattle.model.specs.declared.answers.Answer.TheVariants.{Done};
-ghost use Rattle.model.specs.declared.answers.Refusal.TheVariants.{NoSuch, Full, Outside};
+ghost use Rattle.model.specs.declared.answers.Refusal.TheVariants.{NoSuch, Full};
 ghost use Rattle.model.specs.declared.calls.Call.TheVariants.{Place, Alter, Lift};
 ghost use Rattle.model.specs.declared.rules.Rule.{Rule as RuleOf};
 ghost use Rattle.tree.specs.Table.{shape_of};
 ghost use Rattle.lists.specs.Lengths.{lengths_of, length_at};
 ghost use Rattle.checks.specs.Rows.{rule_entry};
-ghost use Rattle.register.specs.Edits.{Opened, There, Room, Stands, CompleteJudged, KeptJudged, EditJudged, list_length, stored};
+ghost use Rattle.register.specs.Edits.{Opened, There, Room, Stands, CompleteJudged, KeptJudged, EditJudged, list_length};
+ghost use Rattle.register.specs.Memory.{SameMemory, lent_by, tables_of};
 ghost use Rattle.register.specs.Order.{Refuses};
 ghost use Rattle.register.specs.Picture.{Tried};
 
 use super::Register;
-use super::refusals::check_lengths;
 use super::rows::{exchange, part, put_in, take_out, undo_put_in};
+use crate::memory::Memory;
 use checks::{PacketRow, PropertyRow, RuleRow, find_unmatched, rule_row};
 use kinds::Kind;
 use lists::ListTable;
-use model::{Lent, MAX_LIST, MAX_RULES, Refusal, Rule};
-use search::{Frame, lies_inside};
+use model::{MAX_LIST, MAX_RULES, Refusal, Rule};
+use search::Frame;
 use tree::TreeTable;
 use verdicts::first_broken;
 
@@ -43,30 +42,13 @@ fn check_there<V, W>(
 }
 
 // 4: there is room for one more rule in the list of the firewall.
-fn check_room<V, W>(lists: &ListTable, firewall: usize) -> Result<(), Refusal<V, W>>
+fn check_list_room<V, W>(lists: &ListTable, firewall: usize) -> Result<(), Refusal<V, W>>
     ensures { Refuses result Full ((max_list ≤ length_at (lengths_of lists.now) firewall) ⊎ (max_rules ≤ sum (lengths_of lists.now))) }
 {
     if lists.length(firewall) >= MAX_LIST || lists.total() >= MAX_RULES {
         return Err(Refusal::Full);
     }
     Ok(())
-}
-
-// 5: every region of the rule is inside its whole.
-fn check_rule_inside<A: Kind, R: Kind>(
-    rule: Rule<A, R>,
-    addresses: A,
-    rests: R,
-) -> Result<(), Refusal<A::Value, R::Value>>
-    ensures { (t : Tree A R) → t.addresses ≡ addresses → t.rests ≡ rests → Refuses result Outside (RuleInside A.Kind.holds R.Kind.holds t rule → ⊥) }
-{
-    if lies_inside(rule.source, addresses)
-        && lies_inside(rule.destination, addresses)
-        && lies_inside(rule.rest, rests)
-    {
-        return Ok(());
-    }
-    Err(Refusal::Outside)
 }
 
 // 10: every packet of the whole is matched in the list.
@@ -78,12 +60,9 @@ fn check_complete<A: Kind, R: Kind>(
 ) -> Result<(), Refusal<A::Value, R::Value>>
     ensures { (t : Tree A R) (rs : List (RuleOf A R)) → t.addresses ≡ addresses → t.rests ≡ rests → list.now ≡ map (rule_entry A.Kind.plain R.Kind.plain) rs → CompleteJudged A.Kind.holds R.Kind.holds t rs (length frames.old) result }
 {
-    match find_unmatched(list, addresses, rests, frames) {
-        Err(_) => Err(Refusal::TooShort),
-        Ok(found) => match found {
-            Some(packet) => Err(Refusal::Unmatched { packet }),
-            None => Ok(()),
-        },
+    match find_unmatched(list, addresses, rests, frames)? {
+        Some(packet) => Err(Refusal::Unmatched { packet }),
+        None => Ok(()),
     }
 }
 
@@ -97,19 +76,16 @@ impl<A: Kind, R: Kind> Register<A, R> {
         firewall: usize,
     ) -> Result<(), Refusal<A::Value, R::Value>>
         requires { max_properties ≤ length properties.now }
-        ensures { (t : Tree A R) (rs : List (RuleOf A R)) → Stands A.Kind.holds R.Kind.holds A.Kind.plain R.Kind.plain self.now properties.now firewall t → list.now ≡ map (rule_entry A.Kind.plain R.Kind.plain) rs → KeptJudged A.Kind.holds R.Kind.holds t rs (length frames.old) firewall result }
+        ensures { (t : Tree A R) (rs : List (RuleOf A R)) → Stands A.Kind R.Kind self.now properties.now firewall t → list.now ≡ map (rule_entry A.Kind.plain R.Kind.plain) rs → KeptJudged A.Kind.holds R.Kind.holds t rs (length frames.old) firewall result }
     {
         let standing = part(properties, 0, self.property_count);
-        match first_broken::<A, R>(&self.tree, standing, firewall, list, frames) {
-            Err(_) => Err(Refusal::TooShort),
-            Ok(found) => match found {
-                Some(broken) => Err(Refusal::Breaks {
-                    property: broken.property,
-                    firewall,
-                    packet: broken.packet,
-                }),
-                None => Ok(()),
-            },
+        match first_broken::<A, R>(&self.tree, standing, firewall, list, frames)? {
+            Some(broken) => Err(Refusal::Breaks {
+                property: broken.property,
+                firewall,
+                packet: broken.packet,
+            }),
+            None => Ok(()),
         }
     }
 
@@ -122,7 +98,7 @@ impl<A: Kind, R: Kind> Register<A, R> {
         firewall: usize,
     ) -> Result<(), Refusal<A::Value, R::Value>>
         requires { max_properties ≤ length properties.now }
-        ensures { (t : Tree A R) (rs : List (RuleOf A R)) → Stands A.Kind.holds R.Kind.holds A.Kind.plain R.Kind.plain self.now properties.now firewall t → list.now ≡ map (rule_entry A.Kind.plain R.Kind.plain) rs → EditJudged A.Kind.holds R.Kind.holds t rs (length frames.old) firewall result }
+        ensures { (t : Tree A R) (rs : List (RuleOf A R)) → Stands A.Kind R.Kind self.now properties.now firewall t → list.now ≡ map (rule_entry A.Kind.plain R.Kind.plain) rs → EditJudged A.Kind.holds R.Kind.holds t rs (length frames.old) firewall result }
     {
         check_complete(list, self.addresses, self.rests, frames)?;
         self.check_kept(list, properties, frames, firewall)
@@ -131,45 +107,43 @@ impl<A: Kind, R: Kind> Register<A, R> {
     // 1, 2, 4 and 5 of place.
     fn check_place(
         &self,
-        lent: Lent,
+        memory: &Memory<'_, A::Row, R::Row>,
         firewall: usize,
         position: usize,
         rule: Rule<A, R>,
     ) -> Result<(), Refusal<A::Value, R::Value>>
-        ensures { Opened A.Kind.holds R.Kind.holds A.Kind.plain R.Kind.plain self.now (Place firewall position rule) lent 12 (There self.now lent firewall (list_length self.now firewall + 1) position × Room self.now firewall) result }
+        ensures { Opened A.Kind R.Kind self.now (Place firewall position rule) (lent_by memory.now) 12 (There self.now (lent_by memory.now) firewall (list_length self.now firewall + 1) position × Room self.now firewall) result }
     {
-        check_lengths(lent)?;
+        memory.check_lengths()?;
         check_there(
             &self.tree,
             firewall,
             self.lists.length(firewall) + 1,
             position,
         )?;
-        check_room(&self.lists, firewall)?;
-        check_rule_inside(rule, self.addresses, self.rests)
+        check_list_room(&self.lists, firewall)?;
+        self.check_regions_inside(rule.source, rule.destination, rule.rest)
     }
 
     // Inserts a rule in the list of a firewall.
     pub(crate) fn try_place(
         &mut self,
-        lent: Lent,
-        rules: &mut [RuleRow<A::Row, R::Row>],
-        properties: &[PropertyRow<A::Row, R::Row>],
-        frames: &mut [Frame<PacketRow<A::Row, R::Row>>],
+        memory: &mut Memory<'_, A::Row, R::Row>,
         firewall: usize,
         position: usize,
         rule: Rule<A, R>,
     ) -> Result<(), Refusal<A::Value, R::Value>>
-        requires rows { lent.rules ≡ length rules.old }
-        requires standing { lent.properties ≡ length properties.now }
-        requires room { lent.packet_frames ≡ length frames.old }
-        ensures { (blocks : List (Entry A.Row)) → Tried A.Kind.holds R.Kind.holds A.Kind.plain R.Kind.plain self.old (stored rules.old blocks properties.now) (Place firewall position rule) lent (λ _. Done) result self.new (stored rules.new blocks properties.now) }
+        ensures does { Tried A.Kind R.Kind self.old (tables_of memory.old) (Place firewall position rule) (lent_by memory.old) (λ _. Done) result self.new (tables_of memory.new) }
+        ensures same { SameMemory memory.old memory.new }
     {
-        self.check_place(lent, firewall, position, rule)?;
+        self.check_place(memory, firewall, position, rule)?;
         let used = self.lists.total();
         let start = self.lists.start(firewall);
         let size = self.lists.length(firewall) + 1;
         let at = start + position;
+        let rules = &mut *memory.rules;
+        let properties = &mut *memory.properties;
+        let frames = &mut *memory.packet_frames;
         let behind = put_in(rules, used, at, rule_row(rule));
         match self.check_kept(part(rules, start, size), properties, frames, firewall) {
             Ok(()) => {
@@ -186,38 +160,36 @@ impl<A: Kind, R: Kind> Register<A, R> {
     // 1, 2 and 5 of alter.
     fn check_alter(
         &self,
-        lent: Lent,
+        memory: &Memory<'_, A::Row, R::Row>,
         firewall: usize,
         position: usize,
         rule: Rule<A, R>,
     ) -> Result<(), Refusal<A::Value, R::Value>>
-        ensures { Opened A.Kind.holds R.Kind.holds A.Kind.plain R.Kind.plain self.now (Alter firewall position rule) lent 10 (There self.now lent firewall (list_length self.now firewall) position) result }
+        ensures { Opened A.Kind R.Kind self.now (Alter firewall position rule) (lent_by memory.now) 10 (There self.now (lent_by memory.now) firewall (list_length self.now firewall) position) result }
     {
-        check_lengths(lent)?;
+        memory.check_lengths()?;
         check_there(&self.tree, firewall, self.lists.length(firewall), position)?;
-        check_rule_inside(rule, self.addresses, self.rests)
+        self.check_regions_inside(rule.source, rule.destination, rule.rest)
     }
 
     // Replaces a rule in the list of a firewall.
     pub(crate) fn try_alter(
         &self,
-        lent: Lent,
-        rules: &mut [RuleRow<A::Row, R::Row>],
-        properties: &[PropertyRow<A::Row, R::Row>],
-        frames: &mut [Frame<PacketRow<A::Row, R::Row>>],
+        memory: &mut Memory<'_, A::Row, R::Row>,
         firewall: usize,
         position: usize,
         rule: Rule<A, R>,
     ) -> Result<(), Refusal<A::Value, R::Value>>
-        requires rows { lent.rules ≡ length rules.old }
-        requires standing { lent.properties ≡ length properties.now }
-        requires room { lent.packet_frames ≡ length frames.old }
-        ensures { (blocks : List (Entry A.Row)) → Tried A.Kind.holds R.Kind.holds A.Kind.plain R.Kind.plain self.now (stored rules.old blocks properties.now) (Alter firewall position rule) lent (λ _. Done) result self.now (stored rules.new blocks properties.now) }
+        ensures does { Tried A.Kind R.Kind self.now (tables_of memory.old) (Alter firewall position rule) (lent_by memory.old) (λ _. Done) result self.now (tables_of memory.new) }
+        ensures same { SameMemory memory.old memory.new }
     {
-        self.check_alter(lent, firewall, position, rule)?;
+        self.check_alter(memory, firewall, position, rule)?;
         let start = self.lists.start(firewall);
         let size = self.lists.length(firewall);
         let at = start + position;
+        let rules = &mut *memory.rules;
+        let properties = &mut *memory.properties;
+        let frames = &mut *memory.packet_frames;
         let old = exchange(rules, at, rule_row(rule));
         match self.check_edited(part(rules, start, size), properties, frames, firewall) {
             Ok(()) => Ok(()),
@@ -231,36 +203,34 @@ impl<A: Kind, R: Kind> Register<A, R> {
     // 1 and 2 of lift.
     fn check_lift(
         &self,
-        lent: Lent,
+        memory: &Memory<'_, A::Row, R::Row>,
         firewall: usize,
         position: usize,
     ) -> Result<(), Refusal<A::Value, R::Value>>
-        ensures { Opened A.Kind.holds R.Kind.holds A.Kind.plain R.Kind.plain self.now (Lift firewall position) lent 10 (There self.now lent firewall (list_length self.now firewall) position) result }
+        ensures { Opened A.Kind R.Kind self.now (Lift firewall position) (lent_by memory.now) 10 (There self.now (lent_by memory.now) firewall (list_length self.now firewall) position) result }
     {
-        check_lengths(lent)?;
+        memory.check_lengths()?;
         check_there(&self.tree, firewall, self.lists.length(firewall), position)
     }
 
     // Removes a rule from the list of a firewall.
     pub(crate) fn try_lift(
         &mut self,
-        lent: Lent,
-        rules: &mut [RuleRow<A::Row, R::Row>],
-        properties: &[PropertyRow<A::Row, R::Row>],
-        frames: &mut [Frame<PacketRow<A::Row, R::Row>>],
+        memory: &mut Memory<'_, A::Row, R::Row>,
         firewall: usize,
         position: usize,
     ) -> Result<(), Refusal<A::Value, R::Value>>
-        requires rows { lent.rules ≡ length rules.old }
-        requires standing { lent.properties ≡ length properties.now }
-        requires room { lent.packet_frames ≡ length frames.old }
-        ensures { (blocks : List (Entry A.Row)) → Tried A.Kind.holds R.Kind.holds A.Kind.plain R.Kind.plain self.old (stored rules.old blocks properties.now) (Lift firewall position) lent (λ _. Done) result self.new (stored rules.new blocks properties.now) }
+        ensures does { Tried A.Kind R.Kind self.old (tables_of memory.old) (Lift firewall position) (lent_by memory.old) (λ _. Done) result self.new (tables_of memory.new) }
+        ensures same { SameMemory memory.old memory.new }
     {
-        self.check_lift(lent, firewall, position)?;
+        self.check_lift(memory, firewall, position)?;
         let used = self.lists.total();
         let start = self.lists.start(firewall);
         let size = self.lists.length(firewall) - 1;
         let at = start + position;
+        let rules = &mut *memory.rules;
+        let properties = &mut *memory.properties;
+        let frames = &mut *memory.packet_frames;
         let row = take_out(rules, used, at);
         match self.check_edited(part(rules, start, size), properties, frames, firewall) {
             Ok(()) => {

@@ -3,6 +3,7 @@ use Rattle.model.specs.Shape.{Firewall}
 use Rattle.model.specs.declared.answers.Refusal.TheVariants.{NoSuch}
 use Rattle.tree.specs.Table.{shape_of}
 use Rattle.register.specs.Order.{Refuses}
+use Rattle.register.specs.Memory.{lent_by}
 use Rattle.register.proofs.Edits.{lift_opened}
 use Rattle.register.proofs.state.Register.check_lift.Goals as goal
 
@@ -10,5 +11,5 @@ pub returns : goal.returns
 returns g c =
     let was = c.args.self.now in
     let f = c.args.firewall in
-    lift_opened g.A.Kind.holds g.R.Kind.holds g.A.Kind.plain g.R.Kind.plain was c.args.lent c.in_ok-check_lengths.ensures f c.args.position c.check_there.result
+    lift_opened g.A.Kind g.R.Kind was (lent_by c.args.memory.now) c.in_ok-check_lengths.ensures f c.args.position c.check_there.result
     (subst (λ n. Refuses c.check_there.result NoSuch ((Firewall (shape_of was.tree) f → ⊥) ⊎ (n ≤ c.args.position))) c.length.ensures c.check_there.ensures)

@@ -1,13 +1,12 @@
-use Rattle.std.proofs.Common.{refl}
+use Rattle.std.proofs.Common.{rules, refl}
 use Rattle.model.specs.declared.answers.Answer.TheVariants.{Done}
 use Rattle.model.specs.declared.calls.Call.TheVariants.{Place}
-use Rattle.register.specs.Rows.{stored, lent_of}
+use Rattle.register.specs.Memory.{lent_by, tables_of}
 use Rattle.register.proofs.Promises.{promised}
 use Rattle.register.proofs.state.Register.place.Goals as goal
 
-pub returns : goal.returns
-returns g c =
-    let m = c.args.memory in
-    promised g.A.Kind.holds g.R.Kind.holds g.A.Kind.plain g.R.Kind.plain g.met.A.Kind.decided g.met.A.Kind.inhabited c.args.self.now c.try_place.new.self (stored m.rules.now m.blocks.now m.properties.now) _ (Place c.args.firewall c.args.position c.args.rule)
-    (lent_of m.rules.now m.blocks.now m.properties.now m.packet_frames.now m.address_frames.now) (λ _. Done) (λ x. refl) c.try_place.result c.done.result c.done.ensures c.lent-lent.result c.lent-lent.ensures
-    (c.try_place.ensures m.blocks.now)
+pub returns-clause-promise : goal.returns-clause-promise
+returns-clause-promise g c =
+    let m = c.args.memory.now in
+    promised g.A.Kind g.R.Kind g.met.A.Kind.decided g.met.A.Kind.inhabited c.args.self.now c.try_place.new.self (tables_of m) _ (Place c.args.firewall c.args.position c.args.rule)
+    (lent_by m) (λ _. Done) (λ x. refl) (λ x a is. search rules) c.try_place.result c.answer.result c.answer.ensures c.try_place.ensures.does

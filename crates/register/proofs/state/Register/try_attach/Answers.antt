@@ -1,79 +1,80 @@
-use Rattle.std.proofs.Common.{ap, ◌∙◌, inl, inr}
+use Rattle.std.proofs.Common.{refl, ap, ◌∙◌, inl, inr}
 use Rattle.model.specs.Limits.{max_rules}
 use Rattle.model.specs.Shape.{attached}
 use Rattle.model.specs.declared.answers.Refusal.TheVariants.{NoSuch, BadInterface, Full}
 use Rattle.model.specs.declared.calls.Call.TheVariants.{Attach}
 use Rattle.register.specs.Picture.{attached_as}
-use Rattle.register.specs.Rows.{stored, rule_count}
+use Rattle.register.specs.Rows.{rule_count, with_rules}
+use Rattle.register.specs.Memory.{lent_by, tables_of}
 use Rattle.register.proofs.Attaching.{attach_nowhere, attach_badly, attach_full, attach_right, attach_sure, attach_lists, attach_room, attach_rows, domain_there, interfaces_apart, room_for_one, chosen}
 use Rattle.register.proofs.Tries.{tried_exit, tried_exit_short, reached_grown}
 use Rattle.register.proofs.state.Register.try_attach.Goals as goal
 
-pub returns-in_err-check_lengths : goal.returns-in_err-check_lengths
-returns-in_err-check_lengths g c b p =
+pub returns-in_err-check_lengths-clause-does : goal.returns-in_err-check_lengths-clause-does
+returns-in_err-check_lengths-clause-does g c =
     let cause = c.in_err-check_lengths.ensures in
-    tried_exit_short g.A.Kind.holds g.R.Kind.holds g.A.Kind.plain g.R.Kind.plain (Attach c.args.domain c.args.upper c.args.lower c.args.decision) c.args.lent attached_as
-    c.args.self.now (stored c.args.rules.now b p) _ cause.0 c.from_residual.result c.from_residual.ensures.1 cause.1
+    tried_exit_short g.A.Kind g.R.Kind (Attach c.args.domain c.args.upper c.args.lower c.args.decision) (lent_by c.args.memory.now) attached_as
+    c.args.self.now (tables_of c.args.memory.now) _ cause.0 c.from_residual.result c.from_residual.ensures.1 cause.1
 
-pub returns-in_err-check_domain : goal.returns-in_err-check_domain
-returns-in_err-check_domain g c b p =
+pub returns-in_err-check_domain-clause-does : goal.returns-in_err-check_domain-clause-does
+returns-in_err-check_domain-clause-does g c =
     let cause = c.in_err-check_domain.ensures in
     let long = c.in_ok-check_lengths.ensures in
-    let s = stored c.args.rules.now b p in
-    tried_exit g.A.Kind.holds g.R.Kind.holds g.A.Kind.plain g.R.Kind.plain (Attach c.args.domain c.args.upper c.args.lower c.args.decision) c.args.lent attached_as
+    let s = tables_of c.args.memory.now in
+    tried_exit g.A.Kind g.R.Kind (Attach c.args.domain c.args.upper c.args.lower c.args.decision) (lent_by c.args.memory.now) attached_as
     c.args.self.now s _ NoSuch cause.0 c.from_residual-in_err-check_domain.result c.from_residual-in_err-check_domain.ensures.1 long
-    (λ t reached pic. attach_nowhere g.A.Kind.holds g.R.Kind.holds g.A.Kind.plain g.R.Kind.plain c.args.self.now s t pic c.args.domain c.args.upper c.args.lower c.args.decision c.args.lent long cause.1)
+    (λ t reached pic. attach_nowhere g.A.Kind g.R.Kind c.args.self.now s t pic c.args.domain c.args.upper c.args.lower c.args.decision (lent_by c.args.memory.now) long cause.1)
 
-pub returns-in_err-check_interfaces : goal.returns-in_err-check_interfaces
-returns-in_err-check_interfaces g c b p =
+pub returns-in_err-check_interfaces-clause-does : goal.returns-in_err-check_interfaces-clause-does
+returns-in_err-check_interfaces-clause-does g c =
     let cause = c.in_err-check_interfaces.ensures in
     let long = c.in_ok-check_lengths.ensures in
     let there = c.in_ok-check_domain.ensures in
-    let s = stored c.args.rules.now b p in
-    tried_exit g.A.Kind.holds g.R.Kind.holds g.A.Kind.plain g.R.Kind.plain (Attach c.args.domain c.args.upper c.args.lower c.args.decision) c.args.lent attached_as
+    let s = tables_of c.args.memory.now in
+    tried_exit g.A.Kind g.R.Kind (Attach c.args.domain c.args.upper c.args.lower c.args.decision) (lent_by c.args.memory.now) attached_as
     c.args.self.now s _ BadInterface cause.0 c.from_residual-in_err-check_interfaces.result c.from_residual-in_err-check_interfaces.ensures.1 long
-    (λ t reached pic. attach_badly g.A.Kind.holds g.R.Kind.holds g.A.Kind.plain g.R.Kind.plain c.args.self.now s t pic c.args.domain c.args.upper c.args.lower c.args.decision c.args.lent long there cause.1)
+    (λ t reached pic. attach_badly g.A.Kind g.R.Kind c.args.self.now s t pic c.args.domain c.args.upper c.args.lower c.args.decision (lent_by c.args.memory.now) long there cause.1)
 
-pub returns-in_err-check_attach_room : goal.returns-in_err-check_attach_room
-returns-in_err-check_attach_room g c b p =
+pub returns-in_err-check_attach_room-clause-does : goal.returns-in_err-check_attach_room-clause-does
+returns-in_err-check_attach_room-clause-does g c =
     let cause = c.in_err-check_attach_room.ensures in
     let long = c.in_ok-check_lengths.ensures in
     let there = c.in_ok-check_domain.ensures in
     let apart = c.in_ok-check_interfaces.ensures in
-    let s = stored c.args.rules.now b p in
-    tried_exit g.A.Kind.holds g.R.Kind.holds g.A.Kind.plain g.R.Kind.plain (Attach c.args.domain c.args.upper c.args.lower c.args.decision) c.args.lent attached_as
+    let s = tables_of c.args.memory.now in
+    tried_exit g.A.Kind g.R.Kind (Attach c.args.domain c.args.upper c.args.lower c.args.decision) (lent_by c.args.memory.now) attached_as
     c.args.self.now s _ Full cause.0 c.from_residual-in_err-check_attach_room.result c.from_residual-in_err-check_attach_room.ensures.1 long
-    (λ t reached pic. attach_full g.A.Kind.holds g.R.Kind.holds g.A.Kind.plain g.R.Kind.plain c.args.self.now s t pic c.args.domain c.args.upper c.args.lower c.args.decision c.args.lent long there apart cause.1)
+    (λ t reached pic. attach_full g.A.Kind g.R.Kind c.args.self.now s t pic c.args.domain c.args.upper c.args.lower c.args.decision (lent_by c.args.memory.now) long there apart cause.1)
 
-pub returns-in-Err : goal.returns-in-Err
-returns-in-Err g c b p =
+pub returns-in-Err-clause-does : goal.returns-in-Err-clause-does
+returns-in-Err-clause-does g c =
     let tree = c.args.self.now.tree in
     absurd (attach_sure tree c.attach.new.self c.args.domain c.args.upper c.args.lower c.in-Err.refusal (domain_there tree c.args.domain c.in_ok-check_domain.ensures)
     (interfaces_apart c.args.upper c.args.lower c.in_ok-check_interfaces.ensures) (λ h. c.in_ok-check_attach_room.ensures (inl h)) c.in-Err.ensures)
 
-pub returns-in-Ok : goal.returns-in-Ok
-returns-in-Ok g c b p =
+pub returns-in-Ok-clause-does : goal.returns-in-Ok-clause-does
+returns-in-Ok-clause-does g c =
     let long = c.in_ok-check_lengths.ensures in
     let there = c.in_ok-check_domain.ensures in
     let apart = c.in_ok-check_interfaces.ensures in
     let room = c.in_ok-check_attach_room.ensures in
     let was = c.args.self.now in
-    let s = stored c.args.rules.now b p in
+    let s = tables_of c.args.memory.now in
     let w = c.args.decision in
     let a = c.in-Ok.ensures in
-    let written = attach_rows g.A.Kind.plain g.R.Kind.plain was w c.args.lent long (λ h. room (inr h)) c.args.rules.now c.replace_row.new.rows c.requires c.total-total.result c.rule_row-row.result c.catch_all.result
+    let written = attach_rows g.A.Kind.plain g.R.Kind.plain was w (lent_by c.args.memory.now) long (λ h. room (inr h)) c.args.memory.now.rules.now c.replace_row.new.rows refl c.total-total.result c.rule_row-row.result c.catch_all.result
     c.total-total.ensures c.rule_row-row.ensures c.catch_all.ensures c.replace_row.result c.replace_row.ensures.there c.replace_row.ensures.after in
     record {
       turns = λ t reached pic.
           let grown = reached_grown g.A.Kind.holds g.R.Kind.holds t reached in
-          let free = attach_room g.A.Kind.holds g.R.Kind.holds g.A.Kind.plain g.R.Kind.plain was s t pic c.args.domain c.args.upper c.args.lower w c.args.lent long grown (λ h. room (inl h)) in
+          let free = attach_room g.A.Kind g.R.Kind was s t pic c.args.domain c.args.upper c.args.lower w (lent_by c.args.memory.now) long grown (λ h. room (inl h)) in
           let lens = chosen c.add.result _ _ _ c.add.ensures.room (free, room_for_one max_rules (rule_count was) (λ h. room (inr h))) c.add.ensures.after in (
-            attach_right g.A.Kind.holds g.R.Kind.holds g.A.Kind.plain g.R.Kind.plain was s t pic c.args.domain c.args.upper c.args.lower w c.args.lent long there apart room c.in-Ok.made c.attach.new.self a,
+            attach_right g.A.Kind g.R.Kind was s t pic c.args.domain c.args.upper c.args.lower w (lent_by c.args.memory.now) long there apart room c.in-Ok.made c.attach.new.self a,
             record {
               addresses = pic.addresses;
               rests = pic.rests;
               shape = a.5 ∙ ap (λ z. attached z c.args.domain c.args.upper c.args.lower) pic.shape;
-              lists = attach_lists g.A.Kind.holds g.R.Kind.holds g.A.Kind.plain g.R.Kind.plain was s t pic c.args.domain c.args.upper c.args.lower w c.args.lent long _ c.replace_row.new.rows c.requires (λ h. room (inr h)) lens written;
+              lists = attach_lists g.A.Kind g.R.Kind was s t pic c.args.domain c.args.upper c.args.lower w (lent_by c.args.memory.now) long _ c.replace_row.new.rows refl (λ h. room (inr h)) lens written;
               block_count = pic.block_count;
               blocks = pic.blocks;
               property_count = pic.property_count;
@@ -81,6 +82,6 @@ returns-in-Ok g c b p =
             },
           );
       register = tt;
-      tables = ap (λ z. stored z b p) written;
+      tables = ap (with_rules s) written;
       short = λ x. absurd (long x);
     }

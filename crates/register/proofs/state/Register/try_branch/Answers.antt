@@ -2,16 +2,17 @@ use Rattle.std.proofs.Common.{refl, ap, ◌∙◌}
 use Rattle.model.specs.Shape.{branched}
 use Rattle.model.specs.declared.answers.Answer.TheVariants.{Branched}
 use Rattle.model.specs.declared.calls.Call.TheVariants.{Branch}
+use Rattle.register.specs.Memory.{lent_by, tables_of}
 use Rattle.register.proofs.Growing.{branch_right, branch_refused, branch_same}
 use Rattle.register.proofs.Tries.{tried_refused, register_same}
 use Rattle.register.proofs.state.Register.try_branch.Goals as goal
 
 pub returns-in_Ok-domain : goal.returns-in_Ok-domain
-returns-in_Ok-domain g c s = record {
+returns-in_Ok-domain g c = record {
   turns = λ t reached pic.
       let made = c.in_Ok-domain.ensures in
       let long = c.in_ok-check_lengths.ensures in (
-        branch_right g.A.Kind.holds g.R.Kind.holds c.args.self.now.tree t pic.shape c.args.lent long c.args.firewall c.args.interface c.in_Ok-domain.domain c.branch-domain.new.self made,
+        branch_right g.A.Kind.holds g.R.Kind.holds c.args.self.now.tree t pic.shape (lent_by c.args.memory.now) long c.args.firewall c.args.interface c.in_Ok-domain.domain c.branch-domain.new.self made,
         record {
           addresses = pic.addresses;
           rests = pic.rests;
@@ -29,10 +30,10 @@ returns-in_Ok-domain g c s = record {
 }
 
 pub returns-in_Err-domain : goal.returns-in_Err-domain
-returns-in_Err-domain g c s =
+returns-in_Err-domain g c =
     let failed = c.in_Err-domain.ensures in
     let was = c.args.self.now in
-    tried_refused g.A.Kind.holds g.R.Kind.holds g.A.Kind.plain g.R.Kind.plain (Branch c.args.firewall c.args.interface) c.args.lent Branched was _ s s c.in_ok-check_lengths.ensures c.refusal_of.result
+    tried_refused g.A.Kind g.R.Kind (Branch c.args.firewall c.args.interface) (lent_by c.args.memory.now) Branched was _ (tables_of c.args.memory.now) (tables_of c.args.memory.now) c.in_ok-check_lengths.ensures c.refusal_of.result
     (register_same was _ refl refl (branch_same was.tree c.branch-domain.new.self c.args.firewall c.args.interface c.in_Err-domain.refusal failed) refl refl refl) refl
     (λ t reached pic. rw c.refusal_of.ensures
-    (branch_refused g.A.Kind.holds g.R.Kind.holds was.tree t pic.shape c.args.lent c.in_ok-check_lengths.ensures c.args.firewall c.args.interface c.in_Err-domain.refusal c.branch-domain.new.self failed))
+    (branch_refused g.A.Kind.holds g.R.Kind.holds was.tree t pic.shape (lent_by c.args.memory.now) c.in_ok-check_lengths.ensures c.args.firewall c.args.interface c.in_Err-domain.refusal c.branch-domain.new.self failed))

@@ -1,81 +1,82 @@
-use Rattle.std.proofs.Common.{ap, ◌∙◌, inl, inr}
+use Rattle.std.proofs.Common.{refl, ap, inl, inr}
 use Rattle.model.specs.declared.answers.Answer.TheVariants.{Done}
 use Rattle.model.specs.declared.answers.Refusal.TheVariants.{NoSuch, Full}
 use Rattle.model.specs.declared.calls.Call.TheVariants.{Stand}
 use Rattle.checks.specs.Rows.{property_row}
-use Rattle.register.specs.Rows.{stored}
+use Rattle.register.specs.Rows.{with_properties}
+use Rattle.register.specs.Memory.{lent_by, tables_of}
 use Rattle.register.proofs.Asking.{owned_apart, frames_enough, break_frames}
 use Rattle.register.proofs.Standing.{stand_nowhere, stand_full, stand_misfits, stand_breaks, stand_right, stand_rows, stand_pictures, stand_count}
 use Rattle.register.proofs.Tries.{tried_exit, tried_exit_short, tried_exit_right, reached_grown}
 use Rattle.register.proofs.state.Register.try_stand.Goals as goal
 
-pub returns-in_err-check_lengths : goal.returns-in_err-check_lengths
-returns-in_err-check_lengths g c =
+pub returns-in_err-check_lengths-clause-does : goal.returns-in_err-check_lengths-clause-does
+returns-in_err-check_lengths-clause-does g c =
     let cause = c.in_err-check_lengths.ensures in
-    tried_exit_short g.A.Kind.holds g.R.Kind.holds g.A.Kind.plain g.R.Kind.plain (Stand c.args.property) c.args.lent (λ _. Done)
-    c.args.self.now (stored c.args.rules.now c.args.blocks.now c.args.properties.now) _ cause.0 c.from_residual.result c.from_residual.ensures.1 cause.1
+    tried_exit_short g.A.Kind g.R.Kind (Stand c.args.property) (lent_by c.args.memory.now) (λ _. Done)
+    c.args.self.now (tables_of c.args.memory.now) _ cause.0 c.from_residual.result c.from_residual.ensures.1 cause.1
 
-pub returns-in_err-check_between : goal.returns-in_err-check_between
-returns-in_err-check_between g c =
+pub returns-in_err-check_between-clause-does : goal.returns-in_err-check_between-clause-does
+returns-in_err-check_between-clause-does g c =
     let cause = c.in_err-check_between.ensures in
     let long = c.in_ok-check_lengths.ensures in
-    let s = stored c.args.rules.now c.args.blocks.now c.args.properties.now in
-    tried_exit g.A.Kind.holds g.R.Kind.holds g.A.Kind.plain g.R.Kind.plain (Stand c.args.property) c.args.lent (λ _. Done)
+    let s = tables_of c.args.memory.now in
+    tried_exit g.A.Kind g.R.Kind (Stand c.args.property) (lent_by c.args.memory.now) (λ _. Done)
     c.args.self.now s _ NoSuch cause.0 c.from_residual-in_err-check_between.result c.from_residual-in_err-check_between.ensures.1 long
-    (λ t reached pic. stand_nowhere g.A.Kind.holds g.R.Kind.holds g.A.Kind.plain g.R.Kind.plain c.args.self.now s t pic c.args.property c.args.lent long cause.1)
+    (λ t reached pic. stand_nowhere g.A.Kind g.R.Kind c.args.self.now s t pic c.args.property (lent_by c.args.memory.now) long cause.1)
 
-pub returns-in_err-check_room : goal.returns-in_err-check_room
-returns-in_err-check_room g c =
+pub returns-in_err-check_room-clause-does : goal.returns-in_err-check_room-clause-does
+returns-in_err-check_room-clause-does g c =
     let cause = c.in_err-check_room.ensures in
     let long = c.in_ok-check_lengths.ensures in
     let between = c.in_ok-check_between.ensures in
-    let s = stored c.args.rules.now c.args.blocks.now c.args.properties.now in
-    tried_exit g.A.Kind.holds g.R.Kind.holds g.A.Kind.plain g.R.Kind.plain (Stand c.args.property) c.args.lent (λ _. Done)
+    let s = tables_of c.args.memory.now in
+    tried_exit g.A.Kind g.R.Kind (Stand c.args.property) (lent_by c.args.memory.now) (λ _. Done)
     c.args.self.now s _ Full cause.0 c.from_residual-in_err-check_room.result c.from_residual-in_err-check_room.ensures.1 long
-    (λ t reached pic. stand_full g.A.Kind.holds g.R.Kind.holds g.A.Kind.plain g.R.Kind.plain c.args.self.now s t pic c.args.property c.args.lent long between cause.1)
+    (λ t reached pic. stand_full g.A.Kind g.R.Kind c.args.self.now s t pic c.args.property (lent_by c.args.memory.now) long between cause.1)
 
-pub returns-in_err-check_offer : goal.returns-in_err-check_offer
-returns-in_err-check_offer g c =
+pub returns-in_err-check_offer-clause-does : goal.returns-in_err-check_offer-clause-does
+returns-in_err-check_offer-clause-does g c =
     let long = c.in_ok-check_lengths.ensures in
     let was = c.args.self.now in
-    let s = stored c.args.rules.now c.args.blocks.now c.args.properties.now in
-    tried_exit_right g.A.Kind.holds g.R.Kind.holds g.A.Kind.plain g.R.Kind.plain (Stand c.args.property) c.args.lent (λ _. Done) was s _ c.from_residual-in_err-check_offer.result c.from_residual-in_err-check_offer.ensures.1 long
+    let s = tables_of c.args.memory.now in
+    tried_exit_right g.A.Kind g.R.Kind (Stand c.args.property) (lent_by c.args.memory.now) (λ _. Done) was s _ c.from_residual-in_err-check_offer.result c.from_residual-in_err-check_offer.ensures.1 long
     (λ t reached pic.
     let grown = reached_grown g.A.Kind.holds g.R.Kind.holds t reached in
-    elim (c.in_err-check_offer.ensures t pic.addresses pic.rests pic.shape (owned_apart g.A.Kind.holds g.R.Kind.holds g.A.Kind.plain g.R.Kind.plain was s t pic grown) (c.used_rows.ensures ∙ pic.blocks)) [
-      | inl short ↦ absurd (frames_enough g.A.Kind.holds g.R.Kind.holds g.A.Kind.plain g.R.Kind.plain was s t pic c.args.lent long _ c.requires.addresses short)
-      | inr misfit ↦ stand_misfits g.A.Kind.holds g.R.Kind.holds g.A.Kind.plain g.R.Kind.plain was s t pic c.args.property c.args.lent long c.in_ok-check_between.ensures c.in_ok-check_room.ensures _ misfit
+    elim (c.in_err-check_offer.ensures t pic.addresses pic.rests pic.shape (owned_apart g.A.Kind g.R.Kind was s t pic grown) pic.blocks) [
+      | inl short ↦ absurd (frames_enough g.A.Kind g.R.Kind was s t pic (lent_by c.args.memory.now) long _ refl short)
+      | inr misfit ↦ stand_misfits g.A.Kind g.R.Kind was s t pic c.args.property (lent_by c.args.memory.now) long c.in_ok-check_between.ensures c.in_ok-check_room.ensures _ misfit
     ])
 
-pub returns-in_err-check_offer_kept : goal.returns-in_err-check_offer_kept
-returns-in_err-check_offer_kept g c =
+pub returns-in_err-check_offer_kept-clause-does : goal.returns-in_err-check_offer_kept-clause-does
+returns-in_err-check_offer_kept-clause-does g c =
     let long = c.in_ok-check_lengths.ensures in
     let was = c.args.self.now in
-    let s = stored c.args.rules.now c.args.blocks.now c.args.properties.now in
-    tried_exit_right g.A.Kind.holds g.R.Kind.holds g.A.Kind.plain g.R.Kind.plain (Stand c.args.property) c.args.lent (λ _. Done) was s _ c.from_residual-in_err-check_offer_kept.result c.from_residual-in_err-check_offer_kept.ensures.1 long
+    let s = tables_of c.args.memory.now in
+    tried_exit_right g.A.Kind g.R.Kind (Stand c.args.property) (lent_by c.args.memory.now) (λ _. Done) was s _ c.from_residual-in_err-check_offer_kept.result c.from_residual-in_err-check_offer_kept.ensures.1 long
     (λ t reached pic.
     let grown = reached_grown g.A.Kind.holds g.R.Kind.holds t reached in
-    let fits = c.in_ok-check_offer.ensures t pic.addresses pic.rests pic.shape (owned_apart g.A.Kind.holds g.R.Kind.holds g.A.Kind.plain g.R.Kind.plain was s t pic grown) (c.used_rows.ensures ∙ pic.blocks) in
+    let fits = c.in_ok-check_offer.ensures t pic.addresses pic.rests pic.shape (owned_apart g.A.Kind g.R.Kind was s t pic grown) pic.blocks in
     elim (c.in_err-check_offer_kept.ensures t pic.shape pic.lists) [
-      | inl short ↦ absurd (break_frames g.A.Kind.holds g.R.Kind.holds g.A.Kind.plain g.R.Kind.plain was s t pic c.args.lent long _ c.requires.packets short)
-      | inr (f, k, is, b) ↦ stand_breaks g.A.Kind.holds g.R.Kind.holds g.A.Kind.plain g.R.Kind.plain was s t pic c.args.property c.args.lent long c.in_ok-check_between.ensures c.in_ok-check_room.ensures fits _ f k is b
+      | inl short ↦ absurd (break_frames g.A.Kind g.R.Kind was s t pic (lent_by c.args.memory.now) long _ refl short)
+      | inr (f, k, is, b) ↦ stand_breaks g.A.Kind g.R.Kind was s t pic c.args.property (lent_by c.args.memory.now) long c.in_ok-check_between.ensures c.in_ok-check_room.ensures fits _ f k is b
     ])
 
-pub returns : goal.returns
-returns g c =
+pub returns-clause-does : goal.returns-clause-does
+returns-clause-does g c =
     let long = c.in_ok-check_lengths.ensures in
     let between = c.in_ok-check_between.ensures in
     let room = c.in_ok-check_room.ensures in
     let was = c.args.self.now in
     let p = c.args.property in
-    let s = stored c.args.rules.now c.args.blocks.now c.args.properties.now in
-    let written = stand_rows was c.args.lent long room c.args.properties.now c.replace_row.new.rows c.requires.properties c.property_row.result (property_row g.A.Kind.plain g.R.Kind.plain p) c.property_row.ensures
+    let s = tables_of c.args.memory.now in
+    let written = stand_rows was (lent_by c.args.memory.now) long room c.args.memory.now.properties.now c.replace_row.new.rows refl c.property_row.result (property_row g.A.Kind.plain g.R.Kind.plain p) c.property_row.ensures
     c.replace_row.result c.replace_row.ensures.there c.replace_row.ensures.after in
     record {
       turns = λ t reached pic.
           let grown = reached_grown g.A.Kind.holds g.R.Kind.holds t reached in
-          let fits = c.in_ok-check_offer.ensures t pic.addresses pic.rests pic.shape (owned_apart g.A.Kind.holds g.R.Kind.holds g.A.Kind.plain g.R.Kind.plain was s t pic grown) (c.used_rows.ensures ∙ pic.blocks) in (
-            stand_right g.A.Kind.holds g.R.Kind.holds g.A.Kind.plain g.R.Kind.plain was s t pic p c.args.lent long between room fits (c.in_ok-check_offer_kept.ensures t pic.shape pic.lists),
+          let fits = c.in_ok-check_offer.ensures t pic.addresses pic.rests pic.shape (owned_apart g.A.Kind g.R.Kind was s t pic grown) pic.blocks in (
+            stand_right g.A.Kind g.R.Kind was s t pic p (lent_by c.args.memory.now) long between room fits (c.in_ok-check_offer_kept.ensures t pic.shape pic.lists),
             record {
               addresses = pic.addresses;
               rests = pic.rests;
@@ -83,11 +84,11 @@ returns g c =
               lists = pic.lists;
               block_count = pic.block_count;
               blocks = pic.blocks;
-              property_count = stand_count g.A.Kind.holds g.R.Kind.holds g.A.Kind.plain g.R.Kind.plain was s t pic p c.args.lent long between room;
-              properties = stand_pictures g.A.Kind.holds g.R.Kind.holds g.A.Kind.plain g.R.Kind.plain was s t pic p c.args.lent long between room c.replace_row.new.rows c.requires.properties written;
+              property_count = stand_count g.A.Kind g.R.Kind was s t pic p (lent_by c.args.memory.now) long between room;
+              properties = stand_pictures g.A.Kind g.R.Kind was s t pic p (lent_by c.args.memory.now) long between room c.replace_row.new.rows refl written;
             },
           );
       register = tt;
-      tables = ap (stored c.args.rules.now c.args.blocks.now) written;
+      tables = ap (with_properties s) written;
       short = λ x. absurd (long x);
     }
