@@ -1,5 +1,5 @@
 -- Stand and ask: an offered property, down the refusal table.
-use Rattle.std.proofs.Common.{◌≡◌, ℕ, ◌-◌, ◌≤◌, ◌⊎◌, map, length, take, Some, None, Ok, Option, sym, refl, ap, ◌∙◌, subst, inl, inr, arith, MatchOption}
+use Rattle.std.proofs.Common.{◌≡◌, ℕ, ◌-◌, ◌≤◌, ◌⊎◌, List, map, length, take, Some, None, Ok, Option, sym, refl, ap, ◌∙◌, subst, subst₂, inl, inr, arith, MatchOption}
 use native.Mathlib.Nat.{sub-zero}
 use Rattle.std.proofs.lemmas.Bool.{cases_lt}
 use Rattle.kinds.specs.declared.kind.Kind.{Ghosts}
@@ -18,8 +18,17 @@ use Rattle.model.specs.declared.calls.Call.TheVariants.{Ask}
 use Rattle.model.specs.declared.rules.Property.{Property}
 use Rattle.model.proofs.Grown.{Grown}
 use Rattle.tree.specs.Table.{shape_of}
-use Rattle.checks.specs.Addresses.{OwnedApart}
-use Rattle.checks.specs.Rows.{block_entry}
+use Rattle.checks.specs.Addresses.{BlocksAre}
+use Rattle.checks.specs.Rows.{block_entry, rule_entry}
+use Rattle.kinds.specs.declared.pair.Pair.{Pair}
+use Rattle.kinds.specs.declared.set.SetRow.{SetRow}
+use Rattle.lists.specs.Layout.{Laid}
+use Rattle.lists.specs.Lengths.{lengths_of}
+use Rattle.lists.specs.declared.table.ListTable.{ListTable}
+use Rattle.search.specs.declared.list.Entry.{Entry}
+use Rattle.tree.specs.declared.table.TreeTable.{TreeTable}
+use Rattle.verdicts.specs.Network.{Draws}
+use Rattle.verdicts.specs.declared.network.Network.{Network}
 use Rattle.verdicts.specs.Asked.{AskedFound}
 use Rattle.verdicts.specs.declared.route.Break.{Break}
 use Rattle.register.specs.Offers.{Fits, Misfits}
@@ -28,6 +37,14 @@ use Rattle.register.specs.Picture.{Pictures, asked_as}
 use Rattle.register.specs.Rows.{Stored}
 use Rattle.register.specs.declared.state.Register.{Register}
 use Rattle.register.proofs.Order.{Below, below_one, more, none, refuse}
+
+-- a network that is the register's stands for the tree that the register does
+pub drawn : {A R V W X Y : Type 0} (pa : A → X) (pr : R → Y) (t : Tree A R) (n : Network A R V X W Y) (tree : TreeTable) (lists : ListTable) (rules : List (Entry (Pair SetRow (Pair X (Pair X Y)))))
+    → (n.tree.now ≡ tree) × ((n.lists.now ≡ lists) × (n.rules.now ≡ rules)) → shape_of tree ≡ t.shape → Laid (rule_entry pa pr) (lengths_of lists) rules t.lists → Draws pa pr n t
+drawn pa pr t n tree lists rules (same, (at, of)) shape laid = record {
+  shape = ap shape_of same ∙ shape;
+  lists = subst₂ (λ l r. Laid (rule_entry pa pr) (lengths_of l) r t.lists) (sym at) (sym of) laid;
+}
 
 -- the frames lent are enough
 pub packets_enough : (l : Lent) → (IsTooShort l → ⊥) → min_packet_frames ≤ l.packet_frames
@@ -44,8 +61,8 @@ module _ {A R V W X Y : Type 0} (ka : Ghosts A V X) (kr : Ghosts R W Y) (g : Reg
   pub blocks_used : take (g.block_count - 0) s.blocks ≡ map (block_entry ka.plain) t.blocks
   blocks_used = ap (λ n. take n s.blocks) (sub-zero g.block_count) ∙ pic.blocks
 
-  pub owned_apart : Grown ka.holds kr.holds t → OwnedApart ka.holds t.blocks
-  owned_apart grown = record { owned = λ k b e. (grown.owned k b e).0; apart = grown.apart }
+  pub blocks_are : Grown ka.holds kr.holds t → BlocksAre ka (take g.block_count s.blocks) t
+  blocks_are grown = record { same = pic.blocks; owned = record { owned = λ k b e. (grown.owned k b e).0; apart = grown.apart } }
 
   -- the search of the blocks has frames enough
   pub frames_enough : (l : Lent) → (IsTooShort l → ⊥) → (n : ℕ) → l.address_frames ≡ n → n ≤ length t.blocks → ⊥

@@ -11,8 +11,7 @@ use Rattle.model.specs.declared.answers.Refusal.{Refusal}
 use Rattle.model.specs.declared.calls.Call.{Call}
 use Rattle.model.proofs.Guarding.{right_more}
 use Rattle.verdicts.specs.Passage.{passage_answer}
-use Rattle.verdicts.specs.declared.passage.Passage.{Passage}
-use Rattle.verdicts.specs.declared.passage.Passage.TheVariants.{Passed, Stopped}
+use Rattle.verdicts.specs.declared.passage.Stop.{Stop}
 use Rattle.verdicts.specs.declared.route.Break.{Break}
 use Rattle.register.specs.Picture.{Pictures, Turns, Tried, Answers, answered, asked_as}
 use Rattle.register.specs.Promise.{Tells, Promise}
@@ -24,9 +23,9 @@ pub asked_plain : {V W : Type 0} (found : Option (Break V W)) → refused (asked
 asked_plain None = refl
 asked_plain (Some b) = refl
 
-pub sent_plain : {V W : Type 0} (p : Passage) → refused {V = V} {W = W} (passage_answer p) ≡ None
-sent_plain Passed = refl
-sent_plain (Stopped f n) = refl
+pub sent_plain : {V W : Type 0} (p : Option Stop) → refused {V = V} {W = W} (passage_answer p) ≡ None
+sent_plain None = refl
+sent_plain (Some stop) = refl
 
 module _ {A R V W X Y : Type 0} (ka : Ghosts A V X) (kr : Ghosts R W Y) (tell : (x : A) (v : V) → Dec (ka.holds x v)) (some : (x : A) → Inhabited (ka.holds x))
     (g h : Register A R) (s z : Stored X Y) (c : Call A R V W) (l : Lent) where

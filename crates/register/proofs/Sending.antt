@@ -1,5 +1,5 @@
 -- Send: a packet on its way.
-use Rattle.std.proofs.Common.{sym, subst₂}
+use Rattle.std.proofs.Common.{Some, None, Option, sym, subst₂}
 use Rattle.kinds.specs.declared.kind.Kind.{Ghosts}
 use Rattle.model.specs.Record.{Right, Sent, then_tree}
 use Rattle.model.specs.Refusals.{Applies, IsTooShort}
@@ -12,8 +12,7 @@ use Rattle.model.specs.declared.calls.Call.{Call}
 use Rattle.model.specs.declared.calls.Call.TheVariants.{Send}
 use Rattle.model.specs.declared.rules.Header.{Header}
 use Rattle.verdicts.specs.Passage.{passage_answer}
-use Rattle.verdicts.specs.declared.passage.Passage.{Passage}
-use Rattle.verdicts.specs.declared.passage.Passage.TheVariants.{Passed, Stopped}
+use Rattle.verdicts.specs.declared.passage.Stop.{Stop}
 use Rattle.register.specs.Picture.{Pictures}
 use Rattle.register.specs.Rows.{Stored}
 use Rattle.register.specs.declared.state.Register.{Register}
@@ -43,6 +42,6 @@ module _ {A R V W X Y : Type 0} (ka : Ghosts A V X) (kr : Ghosts R W Y) (g : Reg
         let eight = up 7 (up 6 (up 5 five (λ x. x (k.0, k.1.0, k.1.1))) (λ x. x.1)) (λ x. x) in
         none ka.holds kr.holds t send l (up 12 (up 11 (up 10 (up 9 (up 8 eight (λ x. x.1)) (λ x. x.1)) (λ x. x.1)) (λ x. x.2)) (λ x. x.3))
 
-    pub send_turns : (p : Passage) → Sent ka.holds kr.holds t h (passage_answer p) → Right ka.holds kr.holds t send l (passage_answer p) × Pictures ka.plain kr.plain g s (then_tree t (record { call = send; lent = l; answer = passage_answer p }))
-    send_turns Passed sent = ((send_none, sent), pic)
-    send_turns (Stopped f n) sent = ((send_none, sent), pic)
+    pub send_turns : (p : Option Stop) → Sent ka.holds kr.holds t h (passage_answer p) → Right ka.holds kr.holds t send l (passage_answer p) × Pictures ka.plain kr.plain g s (then_tree t (record { call = send; lent = l; answer = passage_answer p }))
+    send_turns None sent = ((send_none, sent), pic)
+    send_turns (Some stop) sent = ((send_none, sent), pic)

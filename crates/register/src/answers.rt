@@ -4,7 +4,7 @@ ghost use Rattle.register.specs.Picture.{Answers, asked_as};
 ghost use Rattle.verdicts.specs.Passage.{passage_answer};
 
 use model::{Answer, Refusal};
-use verdicts::{Break, Passage};
+use verdicts::{Break, Stop};
 
 // The refusal, or what `say` makes of a result that is none.
 pub(crate) fn answer<T, V, W, F: FnOnce(T) -> Answer<V, W>>(
@@ -33,12 +33,12 @@ pub(crate) fn asked<V, W>(found: Option<Break<V, W>>) -> Answer<V, W>
     }
 }
 
-// The answer of send, by what becomes of the packet.
-pub(crate) fn sent<V, W>(passage: Passage) -> Answer<V, W>
-    ensures { result ≡ passage_answer passage }
+// The answer of send, by what stops the packet.
+pub(crate) fn sent<V, W>(stop: Option<Stop>) -> Answer<V, W>
+    ensures { result ≡ passage_answer stop }
 {
-    match passage {
-        Passage::Passed => Answer::Passed,
-        Passage::Stopped { firewall, position } => Answer::Stopped { firewall, position },
+    match stop {
+        None => Answer::Passed,
+        Some(Stop { firewall, position }) => Answer::Stopped { firewall, position },
     }
 }

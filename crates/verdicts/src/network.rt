@@ -5,6 +5,7 @@ use lists::ListTable;
 use tree::TreeTable;
 
 // Where the firewalls hang, how long their lists are, and the rules of all lists, one after another.
+#[derive(Drop)]
 pub struct Network<'a, A: Kind, R: Kind> {
     pub tree: &'a TreeTable,
     pub lists: &'a ListTable,

@@ -1,5 +1,11 @@
 // What is asked of the register.
-ghost use Rattle.std.specs.Prelude.{◌≡◌};
+ghost use Rattle.std.specs.Prelude.{◌≡◌, length};
+ghost use Rattle.checks.specs.Rows.{rule_entry};
+ghost use Rattle.lists.specs.Layout.{Laid};
+ghost use Rattle.lists.specs.Lengths.{lengths_of};
+ghost use Rattle.model.specs.Tree.{Tree};
+ghost use Rattle.tree.specs.Table.{shape_of};
+ghost use Rattle.verdicts.specs.Asked.{AskedFound};
 ghost use Rattle.model.specs.declared.answers.Refusal.TheVariants.{Outside};
 ghost use Rattle.model.specs.declared.calls.Call.TheVariants.{Ask, Send};
 ghost use Rattle.register.specs.Memory.{SameMemory, lent_by, tables_of};
@@ -9,12 +15,40 @@ ghost use Rattle.verdicts.specs.Passage.{passage_answer};
 
 use super::Register;
 use crate::memory::Memory;
+use checks::{PacketRow, RuleRow};
 use kinds::Kind;
 use model::{Header, Property, Refusal};
+use search::{Frame, TooShort};
 use tables::used_rows;
-use verdicts::{Break, Passage, first_break, passage_of};
+use verdicts::{Break, Network, Stop};
 
 impl<A: Kind, R: Kind> Register<A, R> {
+    // The firewalls with their lists, whose rules lie in this table.
+    fn network<'a>(
+        &'a self,
+        rules: &'a [RuleRow<A::Row, R::Row>],
+    ) -> Network<'a, A, R>
+        ensures { (result.tree.now ≡ self.now.tree) × ((result.lists.now ≡ self.now.lists) × (result.rules.now ≡ rules.now)) }
+    {
+        Network {
+            tree: &self.tree,
+            lists: &self.lists,
+            rules,
+        }
+    }
+
+    // The first break of a property on its route, if anything breaks it.
+    pub(crate) fn first_break(
+        &self,
+        rules: &[RuleRow<A::Row, R::Row>],
+        frames: &mut [Frame<PacketRow<A::Row, R::Row>>],
+        property: Property<A, R>,
+    ) -> Result<Option<Break<A::Value, R::Value>>, TooShort>
+        ensures { (t : Tree A R) → shape_of self.now.tree ≡ t.shape → Laid (rule_entry A.Kind.plain R.Kind.plain) (lengths_of self.now.lists) rules.now t.lists → AskedFound A.Kind.holds R.Kind.holds t property (length frames.old) result }
+    {
+        self.network(rules).first_break(property, frames)
+    }
+
     // What breaks a property, if anything does.
     pub(crate) fn try_ask(
         &self,
@@ -31,7 +65,7 @@ impl<A: Kind, R: Kind> Register<A, R> {
         let packet_frames = &mut *memory.packet_frames;
         let address_frames = &mut *memory.address_frames;
         self.check_offer(blocks, address_frames, property)?;
-        Ok(first_break(&self.tree, &self.lists, rules, property, packet_frames)?)
+        Ok(self.first_break(rules, packet_frames, property)?)
     }
 
     // 5: every part of the packet is in its whole.
@@ -55,12 +89,12 @@ impl<A: Kind, R: Kind> Register<A, R> {
         &self,
         memory: &Memory<'_, A::Row, R::Row>,
         header: Header<A::Value, R::Value>,
-    ) -> Result<Passage, Refusal<A::Value, R::Value>>
+    ) -> Result<Option<Stop>, Refusal<A::Value, R::Value>>
         ensures { Tried A.Kind R.Kind self.now (tables_of memory.now) (Send header) (lent_by memory.now) passage_answer result self.now (tables_of memory.now) }
     {
         memory.check_lengths()?;
         self.check_header_inside(header)?;
         let used = used_rows(memory.blocks, self.block_count);
-        Ok(passage_of::<A, R>(&self.tree, &self.lists, memory.rules, used, header))
+        Ok(self.network(memory.rules).first_stop(used, header))
     }
 }

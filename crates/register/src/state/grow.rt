@@ -74,7 +74,7 @@ impl<A: Kind, R: Kind> Register<A, R> {
             Ok(made) => {
                 let rows = memory.rules.len();
                 replace_row(memory.rules, rows, total, row);
-                self.lists.add();
+                let _ = self.lists.add();
                 Ok(made)
             }
         }

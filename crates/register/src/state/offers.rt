@@ -1,7 +1,6 @@
 // The checks of a property that is offered, by stand or by ask.
 ghost use Rattle.std.specs.Prelude.{◌≡◌, ◌⊎◌, map, length, take};
-ghost use Rattle.checks.specs.Addresses.{OwnedApart};
-ghost use Rattle.checks.specs.Rows.{block_entry};
+ghost use Rattle.checks.specs.Addresses.{BlocksAre};
 ghost use Rattle.model.specs.Refusals.{Misjoined};
 ghost use Rattle.model.specs.Shape.{Domain};
 ghost use Rattle.model.specs.Tree.{Tree};
@@ -11,7 +10,7 @@ ghost use Rattle.register.specs.Offers.{SourceChecked, DestinationChecked, Offer
 ghost use Rattle.register.specs.Order.{Refuses};
 
 use super::Register;
-use checks::{BlockRow, find_foreign};
+use checks::{BlockRow, find_astray};
 use kinds::Kind;
 use model::{Decision, Property, Refusal};
 use search::Frame;
@@ -24,7 +23,7 @@ fn check_source<A: Kind, R: Kind>(
     frames: &mut [Frame<A::Row>],
     property: Property<A, R>,
 ) -> Result<(), Refusal<A::Value, R::Value>>
-    ensures { (t : Tree A R) → OwnedApart A.Kind.holds t.blocks → blocks.now ≡ map (block_entry A.Kind.plain) t.blocks → SourceChecked A.Kind.holds R.Kind.holds t property (length frames.old) result }
+    ensures { (t : Tree A R) → BlocksAre A.Kind blocks.now t → SourceChecked A.Kind.holds R.Kind.holds t property (length frames.old) result }
 {
     match source_astray(blocks, property, frames)? {
         Some(address) => Err(Refusal::SourceAstray { address }),
@@ -38,9 +37,9 @@ fn check_destination<A: Kind, R: Kind>(
     frames: &mut [Frame<A::Row>],
     property: Property<A, R>,
 ) -> Result<(), Refusal<A::Value, R::Value>>
-    ensures { (t : Tree A R) → OwnedApart A.Kind.holds t.blocks → blocks.now ≡ map (block_entry A.Kind.plain) t.blocks → DestinationChecked A.Kind.holds R.Kind.holds t property (length frames.old) result }
+    ensures { (t : Tree A R) → BlocksAre A.Kind blocks.now t → DestinationChecked A.Kind.holds R.Kind.holds t property (length frames.old) result }
 {
-    match find_foreign::<A, R>(blocks, property.destination, property.to, frames)? {
+    match find_astray::<A, R>(blocks, property.destination, property.to, frames)? {
         Some(address) => Err(Refusal::DestinationAstray { address }),
         None => Ok(()),
     }
@@ -85,7 +84,7 @@ impl<A: Kind, R: Kind> Register<A, R> {
         frames: &mut [Frame<A::Row>],
         property: Property<A, R>,
     ) -> Result<(), Refusal<A::Value, R::Value>>
-        ensures { (t : Tree A R) → self.now.addresses ≡ t.addresses → self.now.rests ≡ t.rests → shape_of self.now.tree ≡ t.shape → OwnedApart A.Kind.holds t.blocks → take self.now.block_count blocks.now ≡ map (block_entry A.Kind.plain) t.blocks → OfferChecked A.Kind.holds R.Kind.holds t property (length frames.old) result }
+        ensures { (t : Tree A R) → self.now.addresses ≡ t.addresses → self.now.rests ≡ t.rests → shape_of self.now.tree ≡ t.shape → BlocksAre A.Kind (take self.now.block_count blocks.now) t → OfferChecked A.Kind.holds R.Kind.holds t property (length frames.old) result }
     {
         self.check_regions_inside(property.source, property.destination, property.rest)?;
         self.check_joined(property)?;

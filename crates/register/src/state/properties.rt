@@ -19,7 +19,6 @@ use kinds::Kind;
 use model::{MAX_PROPERTIES, Property, Refusal};
 use search::Frame;
 use tables::{remove_row, replace_row};
-use verdicts::first_break;
 
 impl<A: Kind, R: Kind> Register<A, R> {
     // 12: no packet breaks the offered property, which has the present count for its number.
@@ -31,7 +30,7 @@ impl<A: Kind, R: Kind> Register<A, R> {
     ) -> Result<(), Refusal<A::Value, R::Value>>
         ensures { (t : Tree A R) → shape_of self.now.tree ≡ t.shape → Laid (rule_entry A.Kind.plain R.Kind.plain) (lengths_of self.now.lists) rules.now t.lists → KeptChecked A.Kind.holds R.Kind.holds t property self.now.property_count (length frames.old) result }
     {
-        match first_break(&self.tree, &self.lists, rules, property, frames)? {
+        match self.first_break(rules, frames, property)? {
             Some(found) => Err(Refusal::Breaks {
                 property: self.property_count,
                 firewall: found.firewall,

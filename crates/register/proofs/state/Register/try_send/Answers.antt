@@ -3,6 +3,7 @@ use Rattle.model.specs.declared.answers.Refusal.TheVariants.{Outside}
 use Rattle.model.specs.declared.calls.Call.TheVariants.{Send}
 use Rattle.verdicts.specs.Passage.{passage_answer}
 use Rattle.register.specs.Memory.{lent_by, tables_of}
+use Rattle.register.proofs.Asking.{drawn}
 use Rattle.register.proofs.Sending.{send_outside, send_turns}
 use Rattle.register.proofs.Tries.{tried_exit, tried_exit_short, reached_grown}
 use Rattle.register.proofs.state.Register.try_send.Goals as goal
@@ -30,8 +31,8 @@ returns g c =
     record {
       turns = λ t reached pic.
           let grown = reached_grown g.A.Kind.holds g.R.Kind.holds t reached in
-          send_turns g.A.Kind g.R.Kind was s t pic c.args.header (lent_by c.args.memory.now) long c.in_ok-check_header_inside.ensures c.passage_of.result
-          (c.passage_of.ensures t pic.shape pic.lists (c.used_rows-used.ensures ∙ pic.blocks) (λ k b e. (grown.owned k b e).1));
+          send_turns g.A.Kind g.R.Kind was s t pic c.args.header (lent_by c.args.memory.now) long c.in_ok-check_header_inside.ensures c.first_stop.result
+          (c.first_stop.ensures t (drawn g.A.Kind.plain g.R.Kind.plain t _ _ _ _ c.network.ensures pic.shape pic.lists) (c.used_rows-used.ensures ∙ pic.blocks) (λ k b e. (grown.owned k b e).1));
       register = tt;
       tables = refl;
       short = λ x. absurd (long x);
