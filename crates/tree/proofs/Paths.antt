@@ -1,5 +1,5 @@
 -- How a route is found: hop by hop along the one that there is.
-use Rattle.std.proofs.Common.{◌≡◌, ℕ, ◌+◌, ◌<◌, ◌≤◌, List, [], ◌∷◌, ◌++◌, length, sym, ap, ◌∙◌, subst, append_assoc, append-nil, arith, length-append}
+use Rattle.std.proofs.Common.{◌≡◌, ℕ, ◌+◌, ◌≤◌, List, [], ◌∷◌, ◌++◌, length, sym, ap, ◌∙◌, subst, append_assoc, append-nil, arith, length-append}
 use Rattle.model.specs.Shape.{Domain, Route}
 use Rattle.model.specs.Subtree.{Way}
 use Rattle.model.specs.declared.path.Hop.{Hop}
@@ -43,14 +43,6 @@ module _ (t : TreeTable) (u v : ℕ) where
 
   pub on_next : (hops : List Hop) (at : ℕ) (h : Hop) → OnWay t u v hops at → (at ≡ v → ⊥) → Way (shape_of t) at v h → OnWay t u v (hops ++ (h ∷ [])) h.reached
   on_next hops at h on other way = step hops at h on.rest on.whole on.led on.short other way
-
-  -- there is a hop left
-  unended : (count at : ℕ) (rest : List Hop) → Led (shape_of t) at rest v → count + length rest ≤ 126 → (at ≡ v → ⊥) → count < 126
-  unended count at [] led short other = absurd (other led)
-  unended count at (k ∷ ks) led short other = omega arith
-
-  pub on_room : (hops : List Hop) (at : ℕ) → OnWay t u v hops at → (at ≡ v → ⊥) → length hops < 126
-  on_room hops at on other = unended (length hops) at on.rest on.led on.short other
 
   ended : (hs rest : List Hop) (at : ℕ) → Route (shape_of t) u v (hs ++ rest) → Led (shape_of t) at rest v → at ≡ v → Route (shape_of t) u v hs
   ended hs [] at whole led same = subst (Route (shape_of t) u v) (append-nil hs) whole

@@ -6,7 +6,7 @@ use tables::FixedVec;
 pub mod read;
 
 // A route from u to v has at most u + v hops.
-pub(crate) const HOPS: usize = 2 * ROWS;
+const HOPS: usize = 2 * ROWS;
 
 #[derive(Clone, Copy)]
 pub struct Route {

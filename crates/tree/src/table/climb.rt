@@ -22,7 +22,8 @@ impl TreeTable {
     // The depth of a domain that there is.
     fn depth_of(&self, domain: usize) -> usize
         requires { Domain (shape_of self.now) domain }
-        ensures { (result ≤ domain) × Depth (shape_of self.now) domain result }
+        ensures within { result ≤ domain }
+        ensures depth { Depth (shape_of self.now) domain result }
     {
         if domain == 0 {
             return 0;

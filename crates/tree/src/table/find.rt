@@ -2,7 +2,7 @@
 ghost use Rattle.tree.specs.Path.{RouteOf};
 
 use super::TreeTable;
-use crate::path::{HOPS, Route};
+use crate::path::Route;
 use model::Hop;
 use tables::FixedVec;
 
@@ -20,7 +20,7 @@ impl TreeTable {
             left: 0,
             reached: 0,
         };
-        let mut hops: FixedVec<Hop, HOPS> = FixedVec::new(none);
+        let mut hops = FixedVec::new(none);
         let mut at = from;
         while at != to {
             let hop = self.hop_toward(at, to);
