@@ -72,9 +72,8 @@ impl<A: Kind, R: Kind> Register<A, R> {
         match self.tree.attach(domain, upper, lower) {
             Err(refusal) => Err(refusal_of(refusal)),
             Ok(made) => {
-                let rows = memory.rules.len();
-                replace_row(memory.rules, rows, total, row);
-                self.lists.add();
+                let _ = replace_row(memory.rules, total + 1, total, row);
+                let _ = self.lists.add();
                 Ok(made)
             }
         }
