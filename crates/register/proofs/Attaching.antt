@@ -35,6 +35,7 @@ use Rattle.register.specs.Picture.{Pictures}
 use Rattle.register.specs.Rows.{Stored, rule_count, catch_all}
 use Rattle.register.specs.declared.state.Register.{Register}
 use Rattle.register.proofs.Order.{Below, below_one, more, none, refuse}
+use Rattle.register.proofs.Tries.{chosen}
 
 -- the mask of all interfaces is that set
 pub reads_all : set_of 4294967295 ≡ Some all_interfaces
@@ -43,10 +44,6 @@ reads_all = provided_yes _ _ (×_prop le_prop le_prop) (all_interfaces.some, all
 -- one more is not too many
 pub room_for_one : (m n : ℕ) → (m < n + 1 → ⊥) → n < m
 room_for_one m n h = omega arith
-
--- where a test holds, what it chooses is the first
-pub chosen : {P X : Type 0} (r : Bool) (x y z : X) → Decides r P → P → z ≡ cond r x y → z ≡ x
-chosen r x y z tells p is = is ∙ ap (λ b. cond b x y) (tells.1 p)
 
 -- after the checks the tree table does not refuse
 pub attach_sure : (tree last : TreeTable) (d i j : ℕ) (q : TreeRefusal) → Domain (shape_of tree) d → Apart i j → (max_domains < suc (length (shape_of tree).domains) + 1 → ⊥) → Attaches tree d i j (Err q) last → ⊥
@@ -67,7 +64,7 @@ interfaces_apart i j ok =
 -- the rule for everything is written behind the used rows
 pub attach_rows : {A R X Y : Type 0} (pa : A → X) (pr : R → Y) (g : Register A R) (w : Decision) (l : Lent) → (IsTooShort l → ⊥) → (max_rules < rule_count g + 1 → ⊥)
     → (before after : List (Entry (Pair SetRow (Pair X (Pair X Y))))) → l.rules ≡ length before → (total : ℕ) (row : Entry (Pair SetRow (Pair X (Pair X Y)))) (rule : Rule A R) → total ≡ rule_count g → row ≡ rule_entry pa pr rule → rule ≡ catch_all g w
-    → (r : Bool) → Decides r ((total < length before) × (length before ≤ length before)) → after ≡ cond r (set before total row) before → after ≡ set before (rule_count g) (rule_entry pa pr (catch_all g w))
+    → (r : Bool) → Decides r ((total < total + 1) × (total + 1 ≤ length before)) → after ≡ cond r (set before total row) before → after ≡ set before (rule_count g) (rule_entry pa pr (catch_all g w))
 attach_rows pa pr g w l long room before after size total row rule there is whole r tells next =
     let enough : max_rules ≤ l.rules = elim (cases_lt l.rules max_rules) [ inl less ↦ absurd (long (inl less)) | inr le ↦ le ] in
     chosen r (set before total row) before after tells (omega arith, omega arith) next ∙ ap₂ (λ n x. set before n x) there (is ∙ ap (rule_entry pa pr) whole)

@@ -1,5 +1,5 @@
 -- Blocks given and taken: each answer is right, and the rows picture the tree after it.
-use Rattle.std.proofs.Common.{◌≡◌, ℕ, ◌+◌, ◌-◌, ◌<◌, ◌≤◌, Bool, cond, ◌⊎◌, List, [], ◌∷◌, ◌++◌, map, length, take, set, Some, Ok, Err, Decides, Result, sym, refl, ap, ◌∙◌, subst, inl, inr, arith}
+use Rattle.std.proofs.Common.{◌≡◌, ℕ, ◌+◌, ◌-◌, ◌<◌, ◌≤◌, ◌⊎◌, List, [], ◌∷◌, ◌++◌, map, length, take, set, Some, Ok, Err, Result, sym, refl, ap, ◌∙◌, subst, inl, inr, arith}
 use native.Mathlib.Decide.{dec_le}
 use Rattle.std.proofs.lemmas.List.{length_push, map_push, take_more_set}
 use Rattle.std.proofs.lemmas.List.Edits.{length-remove}
@@ -268,7 +268,3 @@ module _ {A R V W X Y : Type 0} (ka : Ghosts A V X) (kr : Ghosts R W Y) (g : Reg
           tried_refused ka kr (Take b) l (λ _. Done) g h s (with_blocks s back) long q same (ap (with_blocks s) kept) (λ t reached pic.
           let (n, a, is, astray) = left_searched t reached pic {B = B} (Err q) found in
           subst (λ e. Right ka.holds kr.holds t (Take b) l (Refused e)) (sym is) (take_misplaced t pic within n a astray))
-
--- a row that can be put in, or taken out, is
-pub edited : {X : Type 0} (P : Type 0) (r : Bool) (xs ys now : List X) → Decides r P → P → now ≡ cond r xs ys → now ≡ xs
-edited P r xs ys now decides can is = is ∙ ap (λ o. cond o xs ys) (decides.1 can)

@@ -285,6 +285,22 @@ rows_within g l long f = record {
   frames = lent_frames l long;
 }
 
+-- a position in the list of f is a used row of a table that is long enough, and so is one to put a rule at, where there is room
+pub row_there : {A R : Type 0} (g : Register A R) (l : Lent) (f p : ℕ) → There g l f (list_length g f) p → (used start : ℕ) → used ≡ rule_count g → start ≡ start_of (lengths_of g.lists) f
+    → (start + p < used) × (used ≤ l.rules)
+row_there g l f p there used start all first =
+    let fits = rows_within g l there.long f in
+    let at = there.position in
+    (omega arith, omega arith)
+
+pub place_there : {A R : Type 0} (g : Register A R) (l : Lent) (f p : ℕ) → There g l f (list_length g f + 1) p × Room g f → (used start : ℕ) → used ≡ rule_count g → start ≡ start_of (lengths_of g.lists) f
+    → (start + p ≤ used) × (used < l.rules)
+place_there g l f p (there, room) used start all first =
+    let fits = rows_within g l there.long f in
+    let at = there.position in
+    let free = room.all in
+    (omega arith, omega arith)
+
 -- h is the register g but for the lengths of its lists
 pub record Relisted {A R : Type 0} (g h : Register A R) : Type 0 where
   pub addresses : h.addresses ≡ g.addresses

@@ -30,8 +30,8 @@ use Rattle.register.specs.Picture.{Pictures}
 use Rattle.register.specs.Rows.{Stored}
 use Rattle.register.specs.declared.state.Register.{Register}
 use Rattle.register.proofs.Asking.{NowhereBetween, nowhere_there, nowhere_here, misfit_right, fits_below}
-use Rattle.register.proofs.Attaching.{chosen}
 use Rattle.register.proofs.Order.{Below, below_one, more, none, refuse}
+use Rattle.register.proofs.Tries.{chosen}
 
 -- a table that is lent has a row for each property that may stand
 pub properties_enough : (l : Lent) → (IsTooShort l → ⊥) → max_properties ≤ l.properties
@@ -105,7 +105,7 @@ module _ {A R V W : Type 0} (addr : A → V → Type 0) (rests : R → W → Typ
 
 -- the table of properties after one is written behind the used rows
 pub stand_rows : {A R X Y : Type 0} (g : Register A R) (l : Lent) → (IsTooShort l → ⊥) → (max_properties < g.property_count + 1 → ⊥) → (before after : List (PropertyRow X Y)) → l.properties ≡ length before
-    → (row new : PropertyRow X Y) → row ≡ new → (r : Bool) → Decides r ((g.property_count < length before) × (length before ≤ length before)) → after ≡ cond r (set before g.property_count row) before → after ≡ set before g.property_count new
+    → (row new : PropertyRow X Y) → row ≡ new → (r : Bool) → Decides r ((g.property_count < g.property_count + 1) × (g.property_count + 1 ≤ length before)) → after ≡ cond r (set before g.property_count row) before → after ≡ set before g.property_count new
 stand_rows g l long room before after size row new is r tells next =
     let enough = properties_enough l long in
     chosen r (set before g.property_count row) before after tells (omega arith, omega arith) next ∙ ap (set before g.property_count) is

@@ -1,6 +1,7 @@
 -- What is left to show of a call that is refused, and of one that is not.
 use mathlib.Core.HLevel.{is_prop→PathP}
-use Rattle.std.proofs.Common.{◌≡◌, ◌≤◌, IsErrAnd, Ok, Err, Result, sym, refl, ◌∙◌, subst, subst₂}
+use Rattle.std.proofs.Common.{◌≡◌, ℕ, ◌≤◌, Bool, cond, IfSome, IsErrAnd, List, Some, Ok, Err, Decides, Option, Result, sym, refl, ap, ◌∙◌, subst, subst₂}
+use Rattle.std.specs.List.{slice_get}
 use native.Mathlib.Bridge.{le_prop}
 use Rattle.kinds.specs.declared.kind.Kind.{Ghosts}
 use Rattle.model.specs.Limits.{max_blocks, max_properties}
@@ -20,6 +21,14 @@ use Rattle.register.specs.Picture.{Pictures, Reached, Tried}
 use Rattle.register.specs.Rows.{Stored}
 use Rattle.register.specs.declared.state.Register.{Register}
 use Rattle.register.proofs.Order.{below_one, refuse}
+
+-- where a test holds, what it chooses is the first
+pub chosen : {P X : Type 0} (r : Bool) (x y z : X) → Decides r P → P → z ≡ cond r x y → z ≡ x
+chosen r x y z tells p is = is ∙ ap (λ b. cond b x y) (tells.1 p)
+
+-- the row that an edit answers, where it answers one
+pub row_answered : {X : Type 0} (rows : List X) (n : ℕ) (o : Option X) (x : X) → o ≡ Some x → IfSome o (λ row. slice_get rows n ≡ Some row) → slice_get rows n ≡ Some x
+row_answered rows n o x is h = subst (λ z. IfSome z (λ row. slice_get rows n ≡ Some row)) is h
 
 -- registers with equal parts are equal
 pub register_same : {A R : Type 0} (g h : Register A R) → h.addresses ≡ g.addresses → h.rests ≡ g.rests → h.tree ≡ g.tree → h.lists ≡ g.lists

@@ -5,7 +5,6 @@ mod answers;
 mod apply;
 mod calls;
 mod memory;
-mod slots;
 mod state;
 
 pub use memory::Memory;

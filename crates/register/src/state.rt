@@ -12,7 +12,6 @@ pub mod make;
 pub mod offers;
 pub mod properties;
 pub mod refusals;
-pub mod rows;
 pub mod rules;
 
 // The wholes, the tree, how long each list is, and how many blocks and properties there are.

@@ -16,12 +16,11 @@ ghost use Rattle.register.specs.Picture.{Tried};
 use super::Register;
 use super::refusals::{check_inside, check_number, check_room};
 use crate::memory::Memory;
-use crate::slots::{read_slot, write_slot};
 use checks::{BlockRow, PropertyRow, block_row};
 use kinds::Kind;
 use model::{MAX_BLOCKS, Refusal};
 use search::Frame;
-use tables::{insert_row, remove_row, used_rows};
+use tables::{insert_row, remove_row, replace_row, used_rows};
 use tree::TreeTable;
 use verdicts::{first_misplaced, first_overlap};
 
@@ -92,15 +91,14 @@ impl<A: Kind, R: Kind> Register<A, R> {
         check_apart(blocks, used, region)?;
         let properties = &mut *memory.properties;
         let frames = &mut *memory.address_frames;
-        let old = read_slot(blocks, used);
-        write_slot(blocks, used, row);
+        let old = replace_row(blocks, used + 1, used, row).unwrap();
         match check_placed::<A, R>(blocks, used + 1, properties, self.property_count, frames) {
             Ok(()) => {
                 self.block_count = used + 1;
                 Ok(())
             }
             Err(refusal) => {
-                write_slot(blocks, used, old);
+                let _ = replace_row(blocks, used + 1, used, old);
                 Err(refusal)
             }
         }
@@ -121,15 +119,14 @@ impl<A: Kind, R: Kind> Register<A, R> {
         let blocks = &mut *memory.blocks;
         let properties = &mut *memory.properties;
         let frames = &mut *memory.address_frames;
-        let old = read_slot(blocks, block);
-        remove_row(blocks, used, block);
+        let row = remove_row(blocks, used, block).unwrap();
         match check_placed::<A, R>(blocks, used - 1, properties, self.property_count, frames) {
             Ok(()) => {
                 self.block_count = used - 1;
                 Ok(())
             }
             Err(refusal) => {
-                insert_row(blocks, used - 1, block, old);
+                let _ = insert_row(blocks, used - 1, block, row);
                 Err(refusal)
             }
         }

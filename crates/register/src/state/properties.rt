@@ -58,14 +58,9 @@ impl<A: Kind, R: Kind> Register<A, R> {
         let address_frames = &mut *memory.address_frames;
         self.check_offer(blocks, address_frames, property)?;
         self.check_offer_kept(rules, packet_frames, property)?;
-        let rows = memory.properties.len();
-        replace_row(
-            memory.properties,
-            rows,
-            self.property_count,
-            property_row(property),
-        );
-        self.property_count += 1;
+        let used = self.property_count;
+        let _ = replace_row(memory.properties, used + 1, used, property_row(property));
+        self.property_count = used + 1;
         Ok(())
     }
 
@@ -80,7 +75,7 @@ impl<A: Kind, R: Kind> Register<A, R> {
     {
         memory.check_lengths()?;
         check_number(property, self.property_count)?;
-        remove_row(memory.properties, self.property_count, property);
+        let _ = remove_row(memory.properties, self.property_count, property);
         self.property_count -= 1;
         Ok(())
     }

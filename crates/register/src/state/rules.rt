@@ -16,13 +16,13 @@ ghost use Rattle.register.specs.Order.{Refuses};
 ghost use Rattle.register.specs.Picture.{Tried};
 
 use super::Register;
-use super::rows::{exchange, part, put_in, take_out, undo_put_in};
 use crate::memory::Memory;
 use checks::{PacketRow, PropertyRow, RuleRow, find_unmatched, rule_row};
 use kinds::Kind;
 use lists::ListTable;
 use model::{MAX_LIST, MAX_RULES, Refusal, Rule};
 use search::Frame;
+use tables::{insert_row, remove_row, replace_row, rows_from, used_rows};
 use tree::TreeTable;
 use verdicts::first_broken;
 
@@ -75,10 +75,9 @@ impl<A: Kind, R: Kind> Register<A, R> {
         frames: &mut [Frame<PacketRow<A::Row, R::Row>>],
         firewall: usize,
     ) -> Result<(), Refusal<A::Value, R::Value>>
-        requires { max_properties ≤ length properties.now }
         ensures { (t : Tree A R) (rs : List (RuleOf A R)) → Stands A.Kind R.Kind self.now properties.now firewall t → list.now ≡ map (rule_entry A.Kind.plain R.Kind.plain) rs → KeptJudged A.Kind.holds R.Kind.holds t rs (length frames.old) firewall result }
     {
-        let standing = part(properties, 0, self.property_count);
+        let standing = used_rows(properties, self.property_count);
         match first_broken::<A, R>(&self.tree, standing, firewall, list, frames)? {
             Some(broken) => Err(Refusal::Breaks {
                 property: broken.property,
@@ -97,7 +96,6 @@ impl<A: Kind, R: Kind> Register<A, R> {
         frames: &mut [Frame<PacketRow<A::Row, R::Row>>],
         firewall: usize,
     ) -> Result<(), Refusal<A::Value, R::Value>>
-        requires { max_properties ≤ length properties.now }
         ensures { (t : Tree A R) (rs : List (RuleOf A R)) → Stands A.Kind R.Kind self.now properties.now firewall t → list.now ≡ map (rule_entry A.Kind.plain R.Kind.plain) rs → EditJudged A.Kind.holds R.Kind.holds t rs (length frames.old) firewall result }
     {
         check_complete(list, self.addresses, self.rests, frames)?;
@@ -144,14 +142,15 @@ impl<A: Kind, R: Kind> Register<A, R> {
         let rules = &mut *memory.rules;
         let properties = &mut *memory.properties;
         let frames = &mut *memory.packet_frames;
-        let behind = put_in(rules, used, at, rule_row(rule));
-        match self.check_kept(part(rules, start, size), properties, frames, firewall) {
+        let behind = insert_row(rules, used, at, rule_row(rule)).unwrap();
+        match self.check_kept(rows_from(rules, start, size), properties, frames, firewall) {
             Ok(()) => {
                 let _ = self.lists.grow(firewall);
                 Ok(())
             }
             Err(refusal) => {
-                undo_put_in(rules, used, at, behind);
+                let _ = remove_row(rules, used + 1, at);
+                let _ = replace_row(rules, used + 1, used, behind);
                 Err(refusal)
             }
         }
@@ -184,17 +183,18 @@ impl<A: Kind, R: Kind> Register<A, R> {
         ensures same { SameMemory memory.old memory.new }
     {
         self.check_alter(memory, firewall, position, rule)?;
+        let used = self.lists.total();
         let start = self.lists.start(firewall);
         let size = self.lists.length(firewall);
         let at = start + position;
         let rules = &mut *memory.rules;
         let properties = &mut *memory.properties;
         let frames = &mut *memory.packet_frames;
-        let old = exchange(rules, at, rule_row(rule));
-        match self.check_edited(part(rules, start, size), properties, frames, firewall) {
+        let old = replace_row(rules, used, at, rule_row(rule)).unwrap();
+        match self.check_edited(rows_from(rules, start, size), properties, frames, firewall) {
             Ok(()) => Ok(()),
             Err(refusal) => {
-                let _ = exchange(rules, at, old);
+                let _ = replace_row(rules, used, at, old);
                 Err(refusal)
             }
         }
@@ -231,14 +231,14 @@ impl<A: Kind, R: Kind> Register<A, R> {
         let rules = &mut *memory.rules;
         let properties = &mut *memory.properties;
         let frames = &mut *memory.packet_frames;
-        let row = take_out(rules, used, at);
-        match self.check_edited(part(rules, start, size), properties, frames, firewall) {
+        let row = remove_row(rules, used, at).unwrap();
+        match self.check_edited(rows_from(rules, start, size), properties, frames, firewall) {
             Ok(()) => {
                 let _ = self.lists.shrink(firewall);
                 Ok(())
             }
             Err(refusal) => {
-                let _ = put_in(rules, used - 1, at, row);
+                let _ = insert_row(rules, used - 1, at, row);
                 Err(refusal)
             }
         }

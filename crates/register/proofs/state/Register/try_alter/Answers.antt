@@ -4,7 +4,8 @@ use Rattle.std.proofs.lemmas.Result.{err_from_is_err_and}
 use Rattle.model.specs.declared.calls.Call.TheVariants.{Alter}
 use Rattle.register.specs.Edits.{There, list_length}
 use Rattle.register.specs.Memory.{lent_by, tables_of}
-use Rattle.register.proofs.Edits.{rows_within, opened_tried, alter_done, alter_undone}
+use Rattle.register.proofs.Edits.{rows_within, row_there, opened_tried, alter_done, alter_undone}
+use Rattle.register.proofs.Tries.{chosen, row_answered}
 use Rattle.register.proofs.state.Register.try_alter.Goals as goal
 
 pub returns-in_err-check_alter-clause-does : goal.returns-in_err-check_alter-clause-does
@@ -23,50 +24,33 @@ overflow_add-at g c =
     let at = there.position in
     omega (arith, c.start-start.ensures)
 
-pub exchange-old-requires : goal.exchange-old-requires
-exchange-old-requires g c =
-    let there = c.in_ok-check_alter.ensures.fits in
-    let fits = rows_within c.args.self.now (lent_by c.args.memory.now) there.long c.args.firewall in
-    let at = there.position in
-    omega (arith, c.start-start.ensures)
-
-pub part-requires : goal.part-requires
-part-requires g c =
-    let there = c.in_ok-check_alter.ensures.fits in
-    let fits = rows_within c.args.self.now (lent_by c.args.memory.now) there.long c.args.firewall in
-    omega (arith, c.start-start.ensures, c.length-size.ensures, c.exchange-old.auto.rows)
-
-pub check_edited-requires : goal.check_edited-requires
-check_edited-requires g c =
-    let there = c.in_ok-check_alter.ensures.fits in
-    let fits = rows_within c.args.self.now (lent_by c.args.memory.now) there.long c.args.firewall in
-    omega arith
-
-pub exchange-requires : goal.exchange-requires
-exchange-requires g c =
-    let there = c.in_ok-check_alter.ensures.fits in
-    let fits = rows_within c.args.self.now (lent_by c.args.memory.now) there.long c.args.firewall in
-    let at = there.position in
-    omega (arith, c.start-start.ensures, c.exchange-old.auto.rows)
+pub unwrap-old-requires : goal.unwrap-old-requires
+unwrap-old-requires g c = c.replace_row.ensures.there.1 (row_there c.args.self.now (lent_by c.args.memory.now) c.args.firewall c.args.position c.in_ok-check_alter.ensures.fits _ _ c.total-used.ensures c.start-start.ensures)
 
 pub returns-in-Ok-clause-does : goal.returns-in-Ok-clause-does
 returns-in-Ok-clause-does g c =
     let there = c.in_ok-check_alter.ensures.fits in
-    let rows = c.exchange-old.new.rows in
-    alter_done g.A.Kind g.R.Kind c.args.self.now (lent_by c.args.memory.now) c.args.memory.now.rules.now rows c.args.memory.now.blocks.now c.args.memory.now.properties.now
-    c.args.firewall c.args.position c.args.rule there refl (length c.args.memory.now.packet_frames.now) refl
-    (c.exchange-old.ensures.after ∙ (λ i. set c.args.memory.now.rules.now (c.start-start.ensures i + c.args.position) (c.rule_row.ensures i)))
+    let m = c.args.memory.now in
+    let rows = c.replace_row.new.rows in
+    let within = row_there c.args.self.now (lent_by m) c.args.firewall c.args.position there _ _ c.total-used.ensures c.start-start.ensures in
+    alter_done g.A.Kind g.R.Kind c.args.self.now (lent_by m) m.rules.now rows m.blocks.now m.properties.now
+    c.args.firewall c.args.position c.args.rule there refl (length m.packet_frames.now) refl
+    (chosen _ _ _ _ c.replace_row.ensures.there within c.replace_row.ensures.after ∙ (λ i. set m.rules.now (c.start-start.ensures i + c.args.position) (c.rule_row.ensures i)))
     c.in_ok-check_alter.ensures.right tt
-    (λ t rs stands is. c.in-Ok.ensures t rs stands (c.part.ensures ∙ (λ i. take (c.length-size.ensures i) (drop (c.start-start.ensures i) rows)) ∙ is))
+    (λ t rs stands is. c.in-Ok.ensures t rs stands (c.rows_from.ensures ∙ (λ i. take (c.length-size.ensures i) (drop (c.start-start.ensures i) rows)) ∙ is))
 
 pub returns-in-Err-clause-does : goal.returns-in-Err-clause-does
 returns-in-Err-clause-does g c =
     let there = c.in_ok-check_alter.ensures.fits in
-    let rows = c.exchange-old.new.rows in
-    alter_undone g.A.Kind g.R.Kind c.args.self.now (lent_by c.args.memory.now) c.args.memory.now.rules.now rows c.args.memory.now.blocks.now c.args.memory.now.properties.now
-    c.args.firewall c.args.position c.args.rule there refl (length c.args.memory.now.packet_frames.now) refl
-    (c.exchange-old.ensures.after ∙ (λ i. set c.args.memory.now.rules.now (c.start-start.ensures i + c.args.position) (c.rule_row.ensures i)))
+    let m = c.args.memory.now in
+    let rows = c.replace_row.new.rows in
+    let within = row_there c.args.self.now (lent_by m) c.args.firewall c.args.position there _ _ c.total-used.ensures c.start-start.ensures in
+    alter_undone g.A.Kind g.R.Kind c.args.self.now (lent_by m) m.rules.now rows m.blocks.now m.properties.now
+    c.args.firewall c.args.position c.args.rule there refl (length m.packet_frames.now) refl
+    (chosen _ _ _ _ c.replace_row.ensures.there within c.replace_row.ensures.after ∙ (λ i. set m.rules.now (c.start-start.ensures i + c.args.position) (c.rule_row.ensures i)))
     c.in_ok-check_alter.ensures.right c.in-Err.refusal
-    (λ t rs stands is. c.in-Err.ensures t rs stands (c.part.ensures ∙ (λ i. take (c.length-size.ensures i) (drop (c.start-start.ensures i) rows)) ∙ is))
-    c.exchange-old.result (subst (λ n. slice_get c.args.memory.now.rules.now (n + c.args.position) ≡ Some c.exchange-old.result) c.start-start.ensures c.exchange-old.ensures.before)
-    c.exchange.new.rows (c.exchange.ensures.after ∙ (λ i. set rows (c.start-start.ensures i + c.args.position) c.exchange-old.result))
+    (λ t rs stands is. c.in-Err.ensures t rs stands (c.rows_from.ensures ∙ (λ i. take (c.length-size.ensures i) (drop (c.start-start.ensures i) rows)) ∙ is))
+    c.unwrap-old.result (subst (λ n. slice_get m.rules.now (n + c.args.position) ≡ Some c.unwrap-old.result) c.start-start.ensures (row_answered m.rules.now (c.start-start.result + c.args.position) _ _ c.unwrap-old.ensures c.replace_row.ensures.before))
+    c.replace_row-in-Err.new.rows
+    (chosen _ _ _ _ c.replace_row-in-Err.ensures.there (within.0, omega (arith, within.1, c.replace_row.auto.rows)) c.replace_row-in-Err.ensures.after
+    ∙ (λ i. set rows (c.start-start.ensures i + c.args.position) c.unwrap-old.result))

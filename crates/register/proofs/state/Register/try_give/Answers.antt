@@ -5,6 +5,7 @@ use Rattle.model.specs.declared.answers.Refusal.TheVariants.{NoSuch, Full, Outsi
 use Rattle.model.specs.declared.calls.Call.TheVariants.{Give}
 use Rattle.register.specs.Memory.{lent_by, tables_of}
 use Rattle.register.proofs.Blocks.{lengths_are, tried_lengths, tried_check, tried_overlap, give_no_such, give_full, give_outside, given, give_undone}
+use Rattle.register.proofs.Tries.{chosen, row_answered}
 use Rattle.register.proofs.state.Register.try_give.Goals as goal
 
 pub returns-in_err-check_lengths-clause-does : goal.returns-in_err-check_lengths-clause-does
@@ -47,28 +48,37 @@ returns-in_err-check_apart-clause-does g c =
     tried_overlap g.A.Kind g.R.Kind c.args.self.now s (lent_by c.args.memory.now) c.in_ok-check_lengths.ensures c.args.domain c.args.region
     c.in_ok-check_owner.ensures c.in_ok-check_room.ensures c.in_ok-check_inside.ensures _ _ (p.1 ∙ ap Err p.2) c.in_err-check_apart.ensures
 
--- the tables are as long as they must be
+pub unwrap-old-requires : goal.unwrap-old-requires
+unwrap-old-requires g c =
+    let long = lengths_are (lent_by c.args.memory.now) c.in_ok-check_lengths.ensures in
+    let room = c.in_ok-check_room.ensures in
+    c.replace_row.ensures.there.1 (omega arith, omega arith)
+
+-- there are more frames than blocks
 pub check_placed-requires : goal.check_placed-requires
 check_placed-requires g c =
     let long = lengths_are (lent_by c.args.memory.now) c.in_ok-check_lengths.ensures in
     let room = c.in_ok-check_room.ensures in
-    let few = c.args.self.now.properties in
-    let kept = c.write_slot.auto.slots in
-    let sizes = c.requires in
     omega arith
 
 pub returns-in-Ok-clause-does : goal.returns-in-Ok-clause-does
 returns-in-Ok-clause-does g c =
     let s = tables_of c.args.memory.now in
+    let long = lengths_are (lent_by c.args.memory.now) c.in_ok-check_lengths.ensures in
+    let room = c.in_ok-check_room.ensures in
     given g.A.Kind g.R.Kind c.args.self.now s (lent_by c.args.memory.now) c.in_ok-check_lengths.ensures c.args.domain c.args.region
-    c.in_ok-check_owner.ensures c.in_ok-check_room.ensures c.in_ok-check_inside.ensures c.in_ok-check_apart.ensures refl
-    c.write_slot.new.slots (c.write_slot.ensures ∙ ap (set c.args.memory.now.blocks.now c.args.self.now.block_count) c.block_row-row.ensures)
+    c.in_ok-check_owner.ensures room c.in_ok-check_inside.ensures c.in_ok-check_apart.ensures refl
+    c.replace_row.new.rows (chosen _ _ _ _ c.replace_row.ensures.there (omega arith, omega arith) c.replace_row.ensures.after ∙ ap (set s.blocks c.args.self.now.block_count) c.block_row-row.ensures)
     tt _ (record { addresses = refl; rests_same = refl; tree = refl; lists = refl; count = refl; property_count = refl }) c.in-Ok.ensures
 
 pub returns-in-Err-clause-does : goal.returns-in-Err-clause-does
 returns-in-Err-clause-does g c =
     let s = tables_of c.args.memory.now in
+    let long = lengths_are (lent_by c.args.memory.now) c.in_ok-check_lengths.ensures in
+    let room = c.in_ok-check_room.ensures in
+    let kept = c.replace_row.auto.rows in
     give_undone g.A.Kind g.R.Kind c.args.self.now s (lent_by c.args.memory.now) c.in_ok-check_lengths.ensures c.args.domain c.args.region
-    c.in_ok-check_owner.ensures c.in_ok-check_room.ensures c.in_ok-check_inside.ensures c.in_ok-check_apart.ensures refl
-    c.write_slot.new.slots (c.write_slot.ensures ∙ ap (set c.args.memory.now.blocks.now c.args.self.now.block_count) c.block_row-row.ensures)
-    c.in-Err.refusal c.args.self.now refl c.read_slot-old.result c.read_slot-old.ensures c.write_slot-in-Err.new.slots c.write_slot-in-Err.ensures c.in-Err.ensures
+    c.in_ok-check_owner.ensures room c.in_ok-check_inside.ensures c.in_ok-check_apart.ensures refl
+    c.replace_row.new.rows (chosen _ _ _ _ c.replace_row.ensures.there (omega arith, omega arith) c.replace_row.ensures.after ∙ ap (set s.blocks c.args.self.now.block_count) c.block_row-row.ensures)
+    c.in-Err.refusal c.args.self.now refl c.unwrap-old.result (row_answered s.blocks c.args.self.now.block_count _ _ c.unwrap-old.ensures c.replace_row.ensures.before)
+    c.replace_row-in-Err.new.rows (chosen _ _ _ _ c.replace_row-in-Err.ensures.there (omega arith, omega arith) c.replace_row-in-Err.ensures.after) c.in-Err.ensures

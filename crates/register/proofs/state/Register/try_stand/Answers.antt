@@ -1,3 +1,4 @@
+use Rattle.std.specs.Option.{is_some}
 use Rattle.std.proofs.Common.{refl, ap, inl, inr}
 use Rattle.model.specs.declared.answers.Answer.TheVariants.{Done}
 use Rattle.model.specs.declared.answers.Refusal.TheVariants.{NoSuch, Full}
@@ -71,7 +72,7 @@ returns-clause-does g c =
     let p = c.args.property in
     let s = tables_of c.args.memory.now in
     let written = stand_rows was (lent_by c.args.memory.now) long room c.args.memory.now.properties.now c.replace_row.new.rows refl c.property_row.result (property_row g.A.Kind.plain g.R.Kind.plain p) c.property_row.ensures
-    c.replace_row.result c.replace_row.ensures.there c.replace_row.ensures.after in
+    (is_some c.replace_row.result) c.replace_row.ensures.there c.replace_row.ensures.after in
     record {
       turns = λ t reached pic.
           let grown = reached_grown g.A.Kind.holds g.R.Kind.holds t reached in

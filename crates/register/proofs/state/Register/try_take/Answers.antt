@@ -4,7 +4,8 @@ use Rattle.model.specs.declared.answers.Answer.TheVariants.{Done}
 use Rattle.model.specs.declared.answers.Refusal.TheVariants.{NoSuch}
 use Rattle.model.specs.declared.calls.Call.TheVariants.{Take}
 use Rattle.register.specs.Memory.{lent_by, tables_of}
-use Rattle.register.proofs.Blocks.{lengths_are, tried_lengths, tried_check, take_no_such, taken, take_undone, edited}
+use Rattle.register.proofs.Blocks.{lengths_are, tried_lengths, tried_check, take_no_such, taken, take_undone}
+use Rattle.register.proofs.Tries.{chosen, row_answered}
 use Rattle.register.proofs.state.Register.try_take.Goals as goal
 
 pub returns-in_err-check_lengths-clause-does : goal.returns-in_err-check_lengths-clause-does
@@ -41,7 +42,7 @@ returns-in-Ok-clause-does g c =
     let few = was.blocks in
     let sizes = c.requires in
     taken g.A.Kind g.R.Kind was s (lent_by c.args.memory.now) c.in_ok-check_lengths.ensures c.args.block within refl
-    c.remove_row.new.rows (edited _ _ _ _ _ c.remove_row.ensures.there (omega arith, omega arith) c.remove_row.ensures.after)
+    c.remove_row.new.rows (chosen _ _ _ _ c.remove_row.ensures.there (omega arith, omega arith) c.remove_row.ensures.after)
     tt _ (record { addresses = refl; rests_same = refl; tree = refl; lists = refl; count = refl; property_count = refl }) c.in-Ok.ensures
 
 pub returns-in-Err-clause-does : goal.returns-in-Err-clause-does
@@ -54,6 +55,6 @@ returns-in-Err-clause-does g c =
     let sizes = c.requires in
     let kept = c.remove_row.auto.rows in
     take_undone g.A.Kind g.R.Kind was s (lent_by c.args.memory.now) c.in_ok-check_lengths.ensures c.args.block within refl
-    c.remove_row.new.rows (edited _ _ _ _ _ c.remove_row.ensures.there (omega arith, omega arith) c.remove_row.ensures.after)
-    c.in-Err.refusal was refl c.read_slot-old.result c.read_slot-old.ensures
-    c.insert_row.new.rows (edited _ _ _ _ _ c.insert_row.ensures.room (omega arith, omega arith) c.insert_row.ensures.after) c.in-Err.ensures
+    c.remove_row.new.rows (chosen _ _ _ _ c.remove_row.ensures.there (omega arith, omega arith) c.remove_row.ensures.after)
+    c.in-Err.refusal was refl c.unwrap-row.result (row_answered s.blocks c.args.block _ _ c.unwrap-row.ensures c.remove_row.ensures.row)
+    c.insert_row.new.rows (chosen _ _ _ _ c.insert_row.ensures.room (omega arith, omega arith) c.insert_row.ensures.after) c.in-Err.ensures

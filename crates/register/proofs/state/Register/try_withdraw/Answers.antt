@@ -1,3 +1,4 @@
+use Rattle.std.specs.Option.{is_some}
 use Rattle.std.proofs.Common.{refl, ap, arith}
 use Rattle.model.specs.declared.answers.Answer.TheVariants.{Done}
 use Rattle.model.specs.declared.answers.Refusal.TheVariants.{NoSuch}
@@ -30,7 +31,7 @@ returns-clause-does g c =
     let was = c.args.self.now in
     let n = c.args.property in
     let s = tables_of c.args.memory.now in
-    let written = withdraw_rows was n (lent_by c.args.memory.now) long there c.args.memory.now.properties.now c.remove_row.new.rows refl c.remove_row.result c.remove_row.ensures.there c.remove_row.ensures.after in
+    let written = withdraw_rows was n (lent_by c.args.memory.now) long there c.args.memory.now.properties.now c.remove_row.new.rows refl (is_some c.remove_row.result) c.remove_row.ensures.there c.remove_row.ensures.after in
     record {
       turns = λ t reached pic. (
         withdraw_right g.A.Kind g.R.Kind was s t pic (lent_by c.args.memory.now) long n there,
