@@ -26,7 +26,7 @@ use Rattle.tree.specs.Table.{shape_of}
 use Rattle.tables.specs.Rows.{row_in, row_out}
 use Rattle.tables.proofs.Rows.{take_row_out, undo_out, undo_set}
 use Rattle.lists.proofs.Between.{map_removed}
-use Rattle.checks.specs.Addresses.{OwnedApart}
+use Rattle.checks.specs.Addresses.{BlocksAre, OwnedApart}
 use Rattle.lists.specs.Layout.{Laid}
 use Rattle.lists.specs.Lengths.{lengths_of}
 use Rattle.checks.specs.Rows.{rule_entry, block_entry, property_row}
@@ -63,7 +63,7 @@ module _ {A R V W X Y : Type 0} (ka : Ghosts A V X) (kr : Ghosts R W Y) (g : Reg
 
   -- what the search over these rows of the blocks says of every tree that they picture
   abbrev Searched : {B : Type 0} → List (Entry X) → Result B (Refusal V W) → Type 0
-  Searched rows r = (t : Tree A R) → OwnedApart ka.holds t.blocks → rows ≡ map (block_entry ka.plain) t.blocks → take g.property_count s.properties ≡ map (property_row ka.plain kr.plain) t.properties → AllPlaced ka.holds kr.holds t r
+  Searched rows r = (t : Tree A R) → BlocksAre ka rows t → take g.property_count s.properties ≡ map (property_row ka.plain kr.plain) t.properties → AllPlaced ka.holds kr.holds t r
 
   -- a register that differs from g in the number of blocks only
   pub record Counted (h : Register A R) (n : ℕ) : Type 0 where
@@ -180,7 +180,7 @@ module _ {A R V W X Y : Type 0} (ka : Ghosts A V X) (kr : Ghosts R W Y) (g : Reg
           rows_here = ap (take (g.block_count + 1)) are ∙ give_rows t pic there
 
           searched : {B : Type 0} (r : Result B (Refusal V W)) → Searched (take (g.block_count + 1) rows) r → AllPlaced ka.holds kr.holds (after {V = V} {W = W} t (Give d x)) r
-          searched r found = found (after {V = V} {W = W} t (Give d x)) (give_apart t pic (reached_grown ka.holds kr.holds t reached) owner free_here) rows_here pic.properties
+          searched r found = found (after {V = V} {W = W} t (Give d x)) (record { same = rows_here; owned = give_apart t pic (reached_grown ka.holds kr.holds t reached) owner free_here }) pic.properties
 
         pub given : {B : Type 0} (u : B) (h : Register A R) → Counted h (g.block_count + 1) → Searched (take (g.block_count + 1) rows) (Ok u) → Tried ka kr g s (Give d x) l (λ _. Done) (Ok u) h (with_blocks s rows)
         given u h same found = record {
@@ -245,7 +245,7 @@ module _ {A R V W X Y : Type 0} (ka : Ghosts A V X) (kr : Ghosts R W Y) (g : Reg
             ∙ ap (λ (k : List (Entry X)). remove k b) pic.blocks ∙ sym (map_removed (block_entry ka.plain) t.blocks b)
 
         left_searched : {B : Type 0} (r : Result B (Refusal V W)) → Searched (take (g.block_count - 1) rows) r → AllPlaced ka.holds kr.holds (after {V = V} {W = W} t (Take b)) r
-        left_searched r found = found (after {V = V} {W = W} t (Take b)) (owned_apart ka.holds kr.holds (after {V = V} {W = W} t (Take b)) (grown_take ka.holds kr.holds t b (reached_grown ka.holds kr.holds t reached))) rows_left pic.properties
+        left_searched r found = found (after {V = V} {W = W} t (Take b)) (record { same = rows_left; owned = owned_apart ka.holds kr.holds (after {V = V} {W = W} t (Take b)) (grown_take ka.holds kr.holds t b (reached_grown ka.holds kr.holds t reached)) }) pic.properties
 
       pub taken : {B : Type 0} (u : B) (h : Register A R) → Counted h (g.block_count - 1) → Searched (take (g.block_count - 1) rows) (Ok u) → Tried ka kr g s (Take b) l (λ _. Done) (Ok u) h (with_blocks s rows)
       taken u h same found = record {

@@ -51,7 +51,7 @@ returns-in_err-check_attach_room-clause-does g c =
 pub returns-in_err-made-clause-does : goal.returns-in_err-made-clause-does
 returns-in_err-made-clause-does g c =
     let tree = c.args.self.now.tree in
-    absurd (attach_sure tree c.attach.new.self c.args.domain c.args.upper c.args.lower c.in_err-made.field-0 (domain_there tree c.args.domain c.in_ok-check_domain.ensures)
+    absurd (attach_sure tree c.attach.new.self c.args.domain c.args.upper c.args.lower c.in_err-made.field-0.0 (domain_there tree c.args.domain c.in_ok-check_domain.ensures)
     (interfaces_apart c.args.upper c.args.lower c.in_ok-check_interfaces.ensures) (λ h. c.in_ok-check_attach_room.ensures (inl h)) c.in_err-made.ensures)
 
 pub returns-clause-does : goal.returns-clause-does

@@ -1,10 +1,12 @@
-use Rattle.std.proofs.Common.{refl, ap, ◌∙◌}
+use Rattle.std.proofs.Common.{refl, sym, ap, subst, ◌∙◌}
 use Rattle.model.specs.Shape.{branched}
 use Rattle.model.specs.declared.answers.Answer.TheVariants.{Branched}
 use Rattle.model.specs.declared.calls.Call.TheVariants.{Branch}
 use Rattle.register.specs.Memory.{lent_by, tables_of}
+use Rattle.register.specs.Picture.{Tried}
+use Rattle.tree.specs.Refusals.{refusal_of}
 use Rattle.register.proofs.Growing.{branch_right, branch_refused, branch_same}
-use Rattle.register.proofs.Tries.{tried_refused, register_same}
+use Rattle.register.proofs.Tries.{tried_exit_right, register_same}
 use Rattle.register.proofs.state.Register.try_branch.Goals as goal
 
 pub returns : goal.returns
@@ -12,7 +14,7 @@ returns g c = record {
   turns = λ t reached pic.
       let made = c.in_ok-branch.ensures in
       let long = c.in_ok-check_lengths.ensures in (
-        branch_right g.A.Kind.holds g.R.Kind.holds c.args.self.now.tree t pic.shape (lent_by c.args.memory.now) long c.args.firewall c.args.interface c.in_ok-branch.field-0 c.branch.new.self made,
+        branch_right g.A.Kind.holds g.R.Kind.holds c.args.self.now.tree t pic.shape (lent_by c.args.memory.now) long c.args.firewall c.args.interface c.in_ok-branch.field-0 c.branch-self.new.self made,
         record {
           addresses = pic.addresses;
           rests = pic.rests;
@@ -32,8 +34,12 @@ returns g c = record {
 pub returns-in_err-branch : goal.returns-in_err-branch
 returns-in_err-branch g c =
     let failed = c.in_err-branch.ensures in
+    let long = c.in_ok-check_lengths.ensures in
     let was = c.args.self.now in
-    tried_refused g.A.Kind g.R.Kind (Branch c.args.firewall c.args.interface) (lent_by c.args.memory.now) Branched was _ (tables_of c.args.memory.now) (tables_of c.args.memory.now) c.in_ok-check_lengths.ensures c.refusal_of.result
-    (register_same was _ refl refl (branch_same was.tree c.branch.new.self c.args.firewall c.args.interface c.in_err-branch.field-0 failed) refl refl refl) refl
-    (λ t reached pic. rw c.refusal_of.ensures
-    (branch_refused g.A.Kind.holds g.R.Kind.holds was.tree t pic.shape (lent_by c.args.memory.now) c.in_ok-check_lengths.ensures c.args.firewall c.args.interface c.in_err-branch.field-0 c.branch.new.self failed))
+    let s = tables_of c.args.memory.now in
+    let cause = c.in_err-branch.field-0.0 in
+    let call = Branch c.args.firewall c.args.interface in
+    subst (λ h. Tried g.A.Kind g.R.Kind was s call (lent_by c.args.memory.now) Branched c.from_residual-in_err-branch.result h s)
+    (sym (register_same was _ refl refl (branch_same was.tree c.branch-self.new.self c.args.firewall c.args.interface cause failed) refl refl refl))
+    (tried_exit_right g.A.Kind g.R.Kind call (lent_by c.args.memory.now) Branched was s (refusal_of cause) c.from_residual-in_err-branch.result c.from_residual-in_err-branch.ensures.1 long
+      (λ t reached pic. branch_refused g.A.Kind.holds g.R.Kind.holds was.tree t pic.shape (lent_by c.args.memory.now) long c.args.firewall c.args.interface cause c.branch-self.new.self failed))
