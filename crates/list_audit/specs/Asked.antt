@@ -23,6 +23,11 @@ Asked holds region es target wish frames (Err (NoRule p)) = ⊥
 abbrev pub Unread : {X W : Type 0} → (W → Option X) → Entry W → Type 0
 Unread region e = region e.row ≡ None
 
+-- no entry of a list is such, or the position of the first that is
+abbrev pub FirstUnread : {X W : Type 0} → (W → Option X) → List (Entry W) → Option ℕ → Type 0
+FirstUnread region es None = Nowhere (Unread region) es
+FirstUnread {X} {W} region es (Some p) = (e : Entry W) × First (Unread region) es p e
+
 -- the length of a list without such an entry, or the position of the first
 abbrev pub ReadAll : {X W : Type 0} → (W → Option X) → List (Entry W) → Result ℕ Mistake → Type 0
 ReadAll region es (Ok n) = (n ≡ length es) × Nowhere (Unread region) es

@@ -1,6 +1,6 @@
 // Asking one question of a list.
 ghost use Rattle.std.specs.Prelude.{◌≡◌, length};
-ghost use Rattle.list_audit.specs.Asked.{Asked, ReadAll};
+ghost use Rattle.list_audit.specs.Asked.{Asked, FirstUnread, ReadAll};
 ghost use Rattle.list_audit.specs.declared.audit.Mistake.TheVariants.{FewFrames};
 
 use kinds::Kind;
@@ -35,15 +35,22 @@ impl From<TooShort> for Mistake {
     ghost from_gives = { λ short mistake. mistake ≡ FewFrames };
 
     fn from(_short: TooShort) -> Mistake {
-        Mistake::FewFrames
+        Self::FewFrames
     }
+}
+
+// The first entry whose row no region has, if there is one.
+fn first_unread<K: Kind>(list: &[Entry<K::Row>]) -> Option<usize>
+    ensures { FirstUnread K.Kind.region list.now result }
+{
+    list.iter().position(|entry| K::read(entry.row).is_none())
 }
 
 // How many rules the list has, if each has a region. One that has none would hold nothing.
 pub fn read_all<K: Kind>(list: &[Entry<K::Row>]) -> Result<usize, Mistake>
     ensures { ReadAll K.Kind.region list.now result }
 {
-    match list.iter().position(|entry| K::read(entry.row).is_none()) {
+    match first_unread::<K>(list) {
         Some(position) => Err(Mistake::NoRule(position)),
         None => Ok(list.len()),
     }

@@ -26,7 +26,7 @@ impl fmt::Display for Tally {
             found,
             none,
             wrong,
-        } = *self;
+        } = self;
         write!(
             f,
             "{lists} lists, {questions} questions, {found} found, {none} none, wrong {wrong}"
@@ -167,7 +167,7 @@ pub(crate) fn run<K: Judged>(heap: Global, seed: u32, lists: u32) -> Result<Tall
     for _ in 0..lists {
         let list = draw_list::<K>(heap, &mut random)?;
         tally.lists = tally.lists.saturating_add(1);
-        for value in values.iter() {
+        for value in &values {
             let found = outcome_of::<K>(&list, *value);
             tally.hold(found == judge::<K>(&list, *value));
         }

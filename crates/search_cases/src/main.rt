@@ -5,7 +5,7 @@ mod cases;
 mod judged;
 mod random;
 
-use anyhow::anyhow;
+use anyhow::ensure;
 use cases::run;
 use kinds::{FlatRest, LongRest, PacketRegion, Prefix, Range};
 
@@ -17,9 +17,9 @@ fn main(rt: HostRuntime) -> anyhow::Result<()> {
     println!(&rt; "long packets: {long}")?;
     let flat = run::<PacketRegion<Range, FlatRest>>(heap, 4_711, LISTS)?;
     println!(&rt; "flat packets: {flat}")?;
-    if long.wrong == 0 && flat.wrong == 0 {
-        Ok(())
-    } else {
-        Err(anyhow!("the search and the judge differ"))
-    }
+    ensure!(
+        long.wrong == 0 && flat.wrong == 0,
+        "the search and the judge differ"
+    );
+    Ok(())
 }
