@@ -1,5 +1,5 @@
 // Packets of the Long form, and the words that rules and questions about them are written with.
-ghost use Rattle.std.specs.Prelude.{◌≡◌};
+ghost use Rattle.std.specs.Prelude.{◌≡◌, ◌+◌, ◌*◌, ◌^◌};
 
 use kinds::{LongRest, PacketRegion, Pair, Prefix, PrefixRow, RangeRow, SetRow};
 use std::fmt;
@@ -16,66 +16,71 @@ pub type Service = Pair<RangeRow, Pair<RangeRow, RangeRow>>;
 // A packet: interface, source, destination, source port, destination port, protocol.
 pub type Packet = Pair<u8, Pair<u32, Pair<u32, Pair<u32, Pair<u32, u32>>>>>;
 
-// The network a.b.c.d/length. A macro, since the value of a constant cannot call a function.
-macro_rules! net {
-    ($a:literal, $b:literal, $c:literal, $d:literal; $length:literal) => {
-        kinds::PrefixRow {
-            address: ($a << 24) | ($b << 16) | ($c << 8) | $d,
-            length: $length,
-        }
-    };
+const TCP: u32 = 6;
+
+const UDP: u32 = 17;
+
+// The address a.b.c.d as a number.
+pub fn ip(a: u8, b: u8, c: u8, d: u8) -> u32
+    ensures { result ≡ a * 2 ^ 24 + b * 2 ^ 16 + c * 2 ^ 8 + d }
+{
+    (a as u32) * 0x100_0000 + (b as u32) * 0x1_0000 + (c as u32) * 0x100 + (d as u32)
 }
 
-pub(crate) use net;
-
-pub const ANYWHERE: PrefixRow = net!(0, 0, 0, 0; 0);
-
-const ANY_PORT: RangeRow = RangeRow { lo: 0, hi: 65535 };
-
-const TCP: RangeRow = RangeRow { lo: 6, hi: 6 };
-
-const UDP: RangeRow = RangeRow { lo: 17, hi: 17 };
-
-// From any port to any port, over UDP.
-pub const ALL_UDP: Service = Pair {
-    left: ANY_PORT,
-    right: Pair {
-        left: ANY_PORT,
-        right: UDP,
-    },
-};
-
-// Every port and protocol.
-pub const ALL_SERVICES: Service = Pair {
-    left: ANY_PORT,
-    right: Pair {
-        left: ANY_PORT,
-        right: RangeRow { lo: 0, hi: 255 },
-    },
-};
-
-// One number alone.
-fn only(number: u32) -> RangeRow
-    ensures { result ≡ record { lo = number; hi = number } }
+// The network of this address and length.
+pub fn net(address: u32, length: u8) -> PrefixRow
+    ensures { result ≡ record { address = address; length = length } }
 {
-    RangeRow {
-        lo: number,
-        hi: number,
-    }
+    PrefixRow { address, length }
+}
+
+// The network of one host.
+pub fn host(address: u32) -> PrefixRow
+    ensures { result ≡ record { address = address; length = 32 } }
+{
+    net(address, 32)
+}
+
+// Every address.
+pub fn anywhere() -> PrefixRow
+    ensures { result ≡ record { address = 0; length = 0 } }
+{
+    net(0, 0)
+}
+
+// The numbers from `lo` to `hi`.
+fn span(lo: u32, hi: u32) -> RangeRow
+    ensures { result ≡ record { lo = lo; hi = hi } }
+{
+    RangeRow { lo, hi }
 }
 
 // From any port to this port, over TCP.
 pub fn tcp(port: u32) -> Service
     ensures { (result.left ≡ record { lo = 0; hi = 65535 }) × ((result.right.left ≡ record { lo = port; hi = port }) × (result.right.right ≡ record { lo = 6; hi = 6 })) }
 {
-    service(ANY_PORT, only(port), TCP)
+    service(span(0, 65535), span(port, port), span(TCP, TCP))
 }
 
 // From this port to the same port, over UDP.
 pub fn udp_both(port: u32) -> Service
     ensures { (result.left ≡ record { lo = port; hi = port }) × ((result.right.left ≡ record { lo = port; hi = port }) × (result.right.right ≡ record { lo = 17; hi = 17 })) }
 {
-    service(only(port), only(port), UDP)
+    service(span(port, port), span(port, port), span(UDP, UDP))
+}
+
+// From any port to any port, over UDP.
+pub fn all_udp() -> Service
+    ensures { (result.left ≡ record { lo = 0; hi = 65535 }) × ((result.right.left ≡ record { lo = 0; hi = 65535 }) × (result.right.right ≡ record { lo = 17; hi = 17 })) }
+{
+    service(span(0, 65535), span(0, 65535), span(UDP, UDP))
+}
+
+// Every port and protocol.
+pub fn all_services() -> Service
+    ensures { (result.left ≡ record { lo = 0; hi = 65535 }) × ((result.right.left ≡ record { lo = 0; hi = 65535 }) × (result.right.right ≡ record { lo = 0; hi = 255 })) }
+{
+    service(span(0, 65535), span(0, 65535), span(0, 255))
 }
 
 fn service(source_ports: RangeRow, ports: RangeRow, protocols: RangeRow) -> Service

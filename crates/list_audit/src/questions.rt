@@ -3,15 +3,15 @@ ghost use Rattle.std.specs.Prelude.{◌≡◌};
 ghost use Rattle.list_audit.specs.Actions.{number_of};
 ghost use Rattle.search.specs.declared.list.Wish.TheVariants.{Is, IsNot};
 
-use crate::packets::{ALL_SERVICES, ALL_UDP, ANYWHERE, PacketsRow, net, packets, tcp, udp_both};
-use crate::rules::{
-    Action, GUEST_NET, GUESTS, HOUSE, HTTPS, MAIL_HOST, NTP, OFFICE, OFFICE_NET, SERVER_NET, SMTP,
-    STREET, TELNET, TIME_HOST, WEB_HOST,
+use crate::packets::{
+    PacketsRow, all_services, all_udp, anywhere, host, ip, net, packets, tcp, udp_both,
 };
-use kinds::{Kind, PrefixRow, long_addresses, long_rest, whole_packets};
+use crate::rules::{
+    Action, GUESTS, HTTPS, NTP, OFFICE, SMTP, STREET, TELNET, guest_net, house, mail_host,
+    office_net, server_net, time_host, web_host,
+};
+use kinds::{Kind, long_addresses, long_rest, whole_packets};
 use search::Wish;
-
-const CUSTOMERS: PrefixRow = net!(198, 51, 100, 0; 24);
 
 // A question: it is broken by a packet of these with such a match, and kept where there is none.
 #[derive(Clone, Copy)]
@@ -21,8 +21,7 @@ pub struct Question {
     pub breaks: Wish,
 }
 
-// All these packets are accepted. `reaches` and `never` differ in the wish alone, and stay two: the
-// questions are written in these words.
+// All these packets are accepted.
 fn reaches(words: &'static str, packets: PacketsRow) -> Question
     ensures { (result.packets ≡ packets) × (result.breaks ≡ IsNot (Some (number_of Action.Accept))) }
 {
@@ -61,28 +60,29 @@ pub fn complete() -> Question
 // What comes from the street. The fourth is broken: rule 2 stands before rule 4, and holds one
 // packet from that host.
 pub(crate) fn street_questions() -> [Question; 5] {
-    let blocked = net!(203, 0, 113, 66; 32);
-    let files = net!(10, 0, 2, 10; 32);
+    let customers = net(ip(198, 51, 100, 0), 24);
+    let blocked = host(ip(203, 0, 113, 66));
+    let files = host(ip(10, 0, 2, 10));
     [
         reaches(
             "mail from the street reaches the mail host",
-            packets(STREET, ANYWHERE, MAIL_HOST, tcp(SMTP)),
+            packets(STREET, anywhere(), mail_host(), tcp(SMTP)),
         ),
         never(
             "telnet from the street never reaches the mail host",
-            packets(STREET, ANYWHERE, MAIL_HOST, tcp(TELNET)),
+            packets(STREET, anywhere(), mail_host(), tcp(TELNET)),
         ),
         reaches(
             "customers reach the web host",
-            packets(STREET, CUSTOMERS, WEB_HOST, tcp(HTTPS)),
+            packets(STREET, customers, web_host(), tcp(HTTPS)),
         ),
         never(
             "the blocked host 203.0.113.66 reaches no server over UDP",
-            packets(STREET, blocked, SERVER_NET, ALL_UDP),
+            packets(STREET, blocked, server_net(), all_udp()),
         ),
         never(
             "no address of the house comes from the street to the files",
-            packets(STREET, HOUSE, files, ALL_SERVICES),
+            packets(STREET, house(), files, all_services()),
         ),
     ]
 }
@@ -90,23 +90,24 @@ pub(crate) fn street_questions() -> [Question; 5] {
 // What comes from the house. The first is broken: rule 7 cuts one host off. The second is kept,
 // since rule 8 stands before rule 12.
 pub(crate) fn house_questions() -> [Question; 4] {
-    let admins = net!(10, 0, 1, 0; 26);
+    let admins = net(ip(10, 0, 1, 0), 26);
+    let customers = net(ip(198, 51, 100, 0), 24);
     [
         reaches(
             "the whole office gets the time",
-            packets(OFFICE, OFFICE_NET, TIME_HOST, udp_both(NTP)),
+            packets(OFFICE, office_net(), time_host(), udp_both(NTP)),
         ),
         reaches(
             "administrators reach the servers by telnet",
-            packets(OFFICE, admins, SERVER_NET, tcp(TELNET)),
+            packets(OFFICE, admins, server_net(), tcp(TELNET)),
         ),
         never(
             "guests reach no server",
-            packets(GUESTS, ANYWHERE, SERVER_NET, ALL_SERVICES),
+            packets(GUESTS, anywhere(), server_net(), all_services()),
         ),
         reaches(
             "guests read the web of the customers",
-            packets(GUESTS, GUEST_NET, CUSTOMERS, tcp(HTTPS)),
+            packets(GUESTS, guest_net(), customers, tcp(HTTPS)),
         ),
     ]
 }

@@ -1,8 +1,10 @@
 // The rule list of a small office.
-ghost use Rattle.std.specs.Prelude.{◌≡◌};
+ghost use Rattle.std.specs.Prelude.{◌≡◌, ◌+◌, ◌*◌, ◌^◌};
 ghost use Rattle.list_audit.specs.Actions.{Decodes, number_of};
 
-use crate::packets::{ALL_SERVICES, ANYWHERE, PacketsRow, Service, net, packets, tcp, udp_both};
+use crate::packets::{
+    PacketsRow, Service, all_services, anywhere, host, ip, net, packets, tcp, udp_both,
+};
 use kinds::PrefixRow;
 use search::Entry;
 use std::error::Error;
@@ -85,19 +87,47 @@ pub const HTTPS: u32 = 443;
 pub const NTP: u32 = 123;
 
 // All addresses of the house: office, servers and guests.
-pub const HOUSE: PrefixRow = net!(10, 0, 0, 0; 8);
+pub fn house() -> PrefixRow
+    ensures { result ≡ record { address = 10 * 2 ^ 24; length = 8 } }
+{
+    net(ip(10, 0, 0, 0), 8)
+}
 
-pub const OFFICE_NET: PrefixRow = net!(10, 0, 1, 0; 24);
+pub fn office_net() -> PrefixRow
+    ensures { result ≡ record { address = 10 * 2 ^ 24 + 1 * 2 ^ 8; length = 24 } }
+{
+    net(ip(10, 0, 1, 0), 24)
+}
 
-pub const SERVER_NET: PrefixRow = net!(10, 0, 2, 0; 24);
+pub fn server_net() -> PrefixRow
+    ensures { result ≡ record { address = 10 * 2 ^ 24 + 2 * 2 ^ 8; length = 24 } }
+{
+    net(ip(10, 0, 2, 0), 24)
+}
 
-pub const GUEST_NET: PrefixRow = net!(10, 0, 3, 0; 24);
+pub fn guest_net() -> PrefixRow
+    ensures { result ≡ record { address = 10 * 2 ^ 24 + 3 * 2 ^ 8; length = 24 } }
+{
+    net(ip(10, 0, 3, 0), 24)
+}
 
-pub const MAIL_HOST: PrefixRow = net!(10, 0, 2, 25; 32);
+pub fn mail_host() -> PrefixRow
+    ensures { result ≡ record { address = 10 * 2 ^ 24 + 2 * 2 ^ 8 + 25; length = 32 } }
+{
+    host(ip(10, 0, 2, 25))
+}
 
-pub const WEB_HOST: PrefixRow = net!(10, 0, 2, 80; 32);
+pub fn web_host() -> PrefixRow
+    ensures { result ≡ record { address = 10 * 2 ^ 24 + 2 * 2 ^ 8 + 80; length = 32 } }
+{
+    host(ip(10, 0, 2, 80))
+}
 
-pub const TIME_HOST: PrefixRow = net!(10, 0, 2, 12; 32);
+pub fn time_host() -> PrefixRow
+    ensures { result ≡ record { address = 10 * 2 ^ 24 + 2 * 2 ^ 8 + 12; length = 32 } }
+{
+    host(ip(10, 0, 2, 12))
+}
 
 // The rule that does this with these packets.
 fn rule(action: Action, packets: PacketsRow) -> Entry<PacketsRow>
@@ -109,7 +139,6 @@ fn rule(action: Action, packets: PacketsRow) -> Entry<PacketsRow>
     }
 }
 
-// `accept` and `discard` differ in the action alone, and stay two: the list is written in these words.
 fn accept(on: u32, from: PrefixRow, to: PrefixRow, service: Service) -> Entry<PacketsRow>
     ensures { (result.row ≡ record { left = record { mask = on }; right = record { left = from; right = record { left = to; right = service } } }) × (result.outcome ≡ number_of Action.Accept) }
 {
@@ -126,31 +155,31 @@ pub const RULES: usize = 14;
 
 // The rules, from the first to the last. The first that holds a packet decides it.
 pub(crate) fn office_rules() -> [Entry<PacketsRow>; RULES] {
-    let blocked = net!(203, 0, 113, 0; 24);
-    let infected = net!(10, 0, 1, 77; 32);
+    let blocked = net(ip(203, 0, 113, 0), 24);
+    let infected = host(ip(10, 0, 1, 77));
     [
         // 1, 2: Mail and time are for everyone.
-        accept(STREET, ANYWHERE, MAIL_HOST, tcp(SMTP)),
-        accept(STREET, ANYWHERE, TIME_HOST, udp_both(NTP)),
+        accept(STREET, anywhere(), mail_host(), tcp(SMTP)),
+        accept(STREET, anywhere(), time_host(), udp_both(NTP)),
         // 3, 4: The street has no addresses of the house, and some of its networks are blocked.
-        discard(STREET, HOUSE, ANYWHERE, ALL_SERVICES),
-        discard(STREET, blocked, ANYWHERE, ALL_SERVICES),
+        discard(STREET, house(), anywhere(), all_services()),
+        discard(STREET, blocked, anywhere(), all_services()),
         // 5, 6: The web host is for all others.
-        accept(STREET, ANYWHERE, WEB_HOST, tcp(HTTP)),
-        accept(STREET, ANYWHERE, WEB_HOST, tcp(HTTPS)),
+        accept(STREET, anywhere(), web_host(), tcp(HTTP)),
+        accept(STREET, anywhere(), web_host(), tcp(HTTPS)),
         // 7, 8: The office reaches the servers, but for one host.
-        discard(OFFICE, infected, ANYWHERE, ALL_SERVICES),
-        accept(OFFICE, OFFICE_NET, SERVER_NET, ALL_SERVICES),
+        discard(OFFICE, infected, anywhere(), all_services()),
+        accept(OFFICE, office_net(), server_net(), all_services()),
         // 9, 10: Guests see the web, and nothing of the house.
-        discard(GUESTS, ANYWHERE, HOUSE, ALL_SERVICES),
-        accept(GUESTS, GUEST_NET, ANYWHERE, tcp(HTTPS)),
+        discard(GUESTS, anywhere(), house(), all_services()),
+        accept(GUESTS, guest_net(), anywhere(), tcp(HTTPS)),
         // 11: The office reaches the street; what goes to the servers is decided above.
-        accept(OFFICE, OFFICE_NET, ANYWHERE, ALL_SERVICES),
+        accept(OFFICE, office_net(), anywhere(), all_services()),
         // 12: No telnet to the servers, from wherever it is not decided above.
-        discard(EVERYWHERE, ANYWHERE, SERVER_NET, tcp(TELNET)),
+        discard(EVERYWHERE, anywhere(), server_net(), tcp(TELNET)),
         // 13: The mail host sends mail.
-        accept(SERVERS, MAIL_HOST, ANYWHERE, tcp(SMTP)),
+        accept(SERVERS, mail_host(), anywhere(), tcp(SMTP)),
         // 14: The rest is discarded.
-        discard(EVERYWHERE, ANYWHERE, ANYWHERE, ALL_SERVICES),
+        discard(EVERYWHERE, anywhere(), anywhere(), all_services()),
     ]
 }
