@@ -1,5 +1,5 @@
 -- What is answered to a question.
-use Rattle.std.specs.Prelude.{◌≡◌, ℕ, ◌≤◌, List, length, Some, None, Ok, Err, Option, Result}
+use Rattle.std.specs.Prelude.{◌≡◌, ℕ, ◌≤◌, List, length, Some, None, Ok, Err, Option, Result, MatchOption}
 use Rattle.search.specs.Answer.{Witness}
 use Rattle.search.specs.First.{First, Nowhere}
 use Rattle.search.specs.List.{row_holds}
@@ -25,8 +25,7 @@ Unread region e = region e.row ≡ None
 
 -- no entry of a list is such, or the position of the first that is
 abbrev pub FirstUnread : {X W : Type 0} → (W → Option X) → List (Entry W) → Option ℕ → Type 0
-FirstUnread region es None = Nowhere (Unread region) es
-FirstUnread {X} {W} region es (Some p) = (e : Entry W) × First (Unread region) es p e
+FirstUnread {X} {W} region es r = MatchOption r (Nowhere (Unread region) es) (λ p. (e : Entry W) × First (Unread region) es p e)
 
 -- the length of a list without such an entry, or the position of the first
 abbrev pub ReadAll : {X W : Type 0} → (W → Option X) → List (Entry W) → Result ℕ Mistake → Type 0

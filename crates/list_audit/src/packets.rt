@@ -24,7 +24,7 @@ const UDP: u32 = 17;
 pub fn ip(a: u8, b: u8, c: u8, d: u8) -> u32
     ensures { result ≡ a * 2 ^ 24 + b * 2 ^ 16 + c * 2 ^ 8 + d }
 {
-    (a as u32) * 0x100_0000 + (b as u32) * 0x1_0000 + (c as u32) * 0x100 + (d as u32)
+    u32::from_be_bytes([a, b, c, d])
 }
 
 // The network of this address and length.

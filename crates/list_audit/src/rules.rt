@@ -86,6 +86,9 @@ pub const HTTPS: u32 = 443;
 
 pub const NTP: u32 = 123;
 
+// The networks are functions: the value of a constant may not call one, so as constants they would be
+// written without `ip` and `net`.
+
 // All addresses of the house: office, servers and guests.
 pub fn house() -> PrefixRow
     ensures { result ≡ record { address = 10 * 2 ^ 24; length = 8 } }

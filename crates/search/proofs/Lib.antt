@@ -1,6 +1,7 @@
 pub mod Relations
 pub mod Positions
 pub mod Skipped
+pub mod Along
 pub mod Walks
 pub mod Sizes
 pub mod Stack

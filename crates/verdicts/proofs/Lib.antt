@@ -2,6 +2,5 @@ pub mod Shared
 pub mod Strays
 pub mod Hops
 pub mod Edits
-pub mod Along
 pub mod Breaking
 pub mod Sending

@@ -24,10 +24,7 @@ use verdicts::{Break, Network, Stop};
 
 impl<A: Kind, R: Kind> Register<A, R> {
     // The firewalls with their lists, whose rules lie in this table.
-    fn network<'a>(
-        &'a self,
-        rules: &'a [RuleRow<A::Row, R::Row>],
-    ) -> Network<'a, A, R>
+    fn network<'a>(&'a self, rules: &'a [RuleRow<A::Row, R::Row>]) -> Network<'a, A, R>
         ensures { (result.tree.now ≡ self.now.tree) × ((result.lists.now ≡ self.now.lists) × (result.rules.now ≡ rules.now)) }
     {
         Network {

@@ -1,7 +1,7 @@
 use Rattle.std.proofs.Common.{rules}
 use Rattle.std.proofs.lemmas.Iterator.{YieldsList-from_slice, first_from_find}
 use Rattle.verdicts.specs.Edited.{Through}
-use Rattle.verdicts.proofs.Along.{Not, at_find}
+use Rattle.search.proofs.Along.{Not, at_find}
 use Rattle.verdicts.proofs.edited.hop_at.Goals as goal
 
 pub returns : goal.returns

@@ -1,6 +1,6 @@
 use Rattle.std.proofs.Common.{rules}
 use Rattle.std.proofs.lemmas.Iterator.{YieldsList-from_slice, IsFirst-from_position}
-use Rattle.verdicts.proofs.Along.{Not, at_position}
+use Rattle.search.proofs.Along.{Not, at_position}
 use Rattle.verdicts.proofs.Shared.{EntryShares, shared_found}
 use Rattle.verdicts.proofs.overlap.first_overlap.Goals as goal
 

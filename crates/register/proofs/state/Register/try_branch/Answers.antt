@@ -42,4 +42,4 @@ returns-in_err-branch g c =
     subst (λ h. Tried g.A.Kind g.R.Kind was s call (lent_by c.args.memory.now) Branched c.from_residual-in_err-branch.result h s)
     (sym (register_same was _ refl refl (branch_same was.tree c.branch-self.new.self c.args.firewall c.args.interface cause failed) refl refl refl))
     (tried_exit_right g.A.Kind g.R.Kind call (lent_by c.args.memory.now) Branched was s (refusal_of cause) c.from_residual-in_err-branch.result c.from_residual-in_err-branch.ensures.1 long
-      (λ t reached pic. branch_refused g.A.Kind.holds g.R.Kind.holds was.tree t pic.shape (lent_by c.args.memory.now) long c.args.firewall c.args.interface cause c.branch-self.new.self failed))
+    (λ t reached pic. branch_refused g.A.Kind.holds g.R.Kind.holds was.tree t pic.shape (lent_by c.args.memory.now) long c.args.firewall c.args.interface cause c.branch-self.new.self failed))

@@ -1,11 +1,10 @@
 -- The first of a list that fits, as `position` and `find` tell it.
-use Rattle.std.proofs.Common.{◌≡◌, ℕ, ◌<◌, List, length, Some, None, Option, Bor, sym, subst, arith, MatchOption}
+use Rattle.std.proofs.Common.{◌≡◌, ℕ, ◌<◌, List, length, Some, None, Option, Bor, sym, subst, inl, inr, arith, MatchOption}
 use Rattle.std.specs.List.{AllWithin, HoldsAt}
-use Rattle.std.proofs.lemmas.Option.{get_or_from_slice_get}
+use Rattle.std.proofs.lemmas.Option.{get_or_from_slice_get, slice_get_cases}
 use Rattle.search.specs.First.{First, Nowhere, Before}
 use Rattle.std.specs.Option.{option_copied}
 use Rattle.search.proofs.Positions.{nth_get_or, nth_within}
-use Rattle.model.proofs.Subtrees.{nth_some}
 
 module _ {X : Type 0} (fits : X → Type 0) (xs : List X) where
   abbrev pub Not : X → Type 0
@@ -23,7 +22,10 @@ module _ {X : Type 0} (fits : X → Type 0) (xs : List X) where
   -- the place that `position` tells, or none
   pub at_position : (r : Option ℕ) → MatchOption r (AllWithin Not xs 0 (length xs)) (λ i. (i < length xs) × HoldsAt fits xs i × AllWithin Not xs 0 i) → MatchOption r (Nowhere fits xs) (λ k. (x : X) × First fits xs k x)
   at_position None all = nowhere_within all
-  at_position (Some k) (less, here, all) = let (x, at) = nth_some xs k less in (x, record { here = at; fit = subst fits (get_or_from_slice_get xs k x x at) (here x); before = before_within k all })
+  at_position (Some k) (less, here, all) = elim ((slice_get_cases xs k).1) [
+    | inl (x, inside, at, is) ↦ (x, record { here = at; fit = subst fits is (here x); before = before_within k all })
+    | inr past ↦ absurd (omega arith)
+  ]
 
   -- the thing that `find` tells, or none
   pub at_find : (r : Option (Bor X)) → MatchOption r (AllWithin Not xs 0 (length xs)) (λ x. fits x.now × (i : ℕ) × (i < length xs) × HoldsAt (λ y. y ≡ x.now) xs i × AllWithin Not xs 0 i) → MatchOption (option_copied r) (Nowhere fits xs) (λ x. (k : ℕ) × First fits xs k x)
