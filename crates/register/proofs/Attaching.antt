@@ -27,7 +27,6 @@ use Rattle.tree.specs.Table.{shape_of, Attaches, Apart}
 use Rattle.tree.specs.declared.refusal.TreeRefusal as refused
 use Rattle.tree.specs.declared.refusal.TreeRefusal.{TreeRefusal}
 use Rattle.tree.specs.declared.table.TreeTable.{TreeTable}
-use Rattle.tree.proofs.Tables.{count_firewalls, count_domains}
 use Rattle.lists.specs.Layout.{Laid}
 use Rattle.lists.specs.Lengths.{lengths_of}
 use Rattle.lists.proofs.Laid.{laid_count, laid_total, laid_added}
@@ -130,4 +129,4 @@ module _ {A R V W X Y : Type 0} (ka : Ghosts A V X) (kr : Ghosts R W Y) (g : Reg
   attach_room grown room =
       let count = laid_count pic.lists ∙ grown.lists ∙ ap (λ (z : Shape). length z.firewalls) (sym pic.shape) in
       let fewer = g.tree.fewer in
-      omega (arith, count_firewalls g.tree, count_domains g.tree)
+      omega arith

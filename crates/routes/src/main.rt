@@ -2,7 +2,7 @@
 // two.
 #![tactic(auto)]
 
-use anyhow::anyhow;
+use anyhow::{Context, anyhow};
 use tree::{Route, TreeTable};
 
 // Attaches below a domain, and says what came of it.
@@ -13,9 +13,9 @@ fn attach(
     upper: u32,
     lower: u32,
 ) -> anyhow::Result<()> {
-    let Ok((firewall, below)) = tree.attach(domain, upper, lower) else {
-        return Err(anyhow!("the tree does not take the firewall"));
-    };
+    let (firewall, below) = tree
+        .attach(domain, upper, lower)
+        .map_err(|_| anyhow!("the tree does not take the firewall"))?;
     println!(rt;
         "attach at domain {domain} by {upper} and {lower}: firewall {firewall}, domain {below}"
     )?;
@@ -28,9 +28,9 @@ fn branch(
     firewall: usize,
     interface: u32,
 ) -> anyhow::Result<()> {
-    let Ok(below) = tree.branch(firewall, interface) else {
-        return Err(anyhow!("the tree does not take the domain"));
-    };
+    let below = tree
+        .branch(firewall, interface)
+        .map_err(|_| anyhow!("the tree does not take the domain"))?;
     println!(rt; "branch at firewall {firewall} by {interface}: domain {below}")?;
     Ok(())
 }
@@ -45,15 +45,11 @@ fn print_depths(rt: &impl Print, tree: &TreeTable) -> anyhow::Result<()> {
 }
 
 // One line: each firewall, and the interface that it is entered by.
-fn print_route(rt: &impl Print, from: usize, to: usize, route: Route) -> anyhow::Result<()> {
+fn print_route(rt: &impl Print, from: usize, to: usize, route: &Route) -> anyhow::Result<()> {
     print!(rt; "from {from} to {to}:")?;
-    for place in 0..route.len() {
-        if let Some(hop) = route.hop(place) {
-            let comma = if place == 0 { "" } else { "," };
-            let firewall = hop.firewall;
-            let entered = hop.entered;
-            print!(rt; "{comma} firewall {firewall} by {entered}")?;
-        }
+    for (place, hop) in route.hops().iter().enumerate() {
+        let comma = if place == 0 { "" } else { "," };
+        print!(rt; "{comma} firewall {} by {}", hop.firewall, hop.entered)?;
     }
     println!(rt; "")?;
     Ok(())
@@ -65,10 +61,8 @@ fn print_routes(rt: &impl Print, tree: &TreeTable) -> anyhow::Result<usize> {
     for from in 0..tree.domain_count() {
         for to in 0..tree.domain_count() {
             if from != to {
-                let Some(route) = tree.route(from, to) else {
-                    return Err(anyhow!("a route is missing"));
-                };
-                print_route(rt, from, to, route)?;
+                let route = tree.route(from, to).context("a route is missing")?;
+                print_route(rt, from, to, &route)?;
                 count = count.saturating_add(1);
             }
         }

@@ -1,4 +1,5 @@
 pub mod Rows
+pub mod Links
 pub mod Tables
 pub mod Climbs
 pub mod Paths

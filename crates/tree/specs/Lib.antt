@@ -1,4 +1,5 @@
 pub mod Path
+pub mod Refusals
 pub mod Rules
 pub mod Table
 pub mod Toward

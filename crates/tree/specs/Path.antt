@@ -1,5 +1,6 @@
 -- The route that a table finds.
-use Rattle.std.specs.Prelude.{ℕ, List, take, Option, MatchOption}
+use Rattle.std.specs.Prelude.{ℕ, List, Option, MatchOption}
+use Rattle.tables.specs.FixedVec.{used}
 use Rattle.model.specs.Shape.{Domain}
 use Rattle.model.specs.Shape as Shapes
 use Rattle.model.specs.declared.path.Hop.{Hop}
@@ -8,7 +9,7 @@ use Rattle.tree.specs.declared.table.TreeTable.{TreeTable}
 use Rattle.tree.specs.declared.path.Route.{Route}
 
 abbrev pub hops_of : Route → List Hop
-hops_of r = take r.count r.hops
+hops_of r = used r.hops
 
 -- the route from u to v, nothing where one of them does not exist
 abbrev pub RouteOf : TreeTable → ℕ → ℕ → Option Route → Type 0

@@ -1,14 +1,15 @@
 -- The tree that a table holds.
-use Rattle.std.specs.Prelude.{◌≡◌, ℕ, suc, ◌<◌, ◌≤◌, ◌⊎◌, length, take, Ok, Err, Result, ◌≢◌}
+use Rattle.std.specs.Prelude.{◌≡◌, ℕ, suc, ◌<◌, ◌≤◌, ◌⊎◌, length, Ok, Err, Result, ◌≢◌}
 use Rattle.model.specs.Limits.{max_domains, max_interfaces}
 use Rattle.model.specs.Shape.{Shape, Domain, Firewall, Joined, attached, branched}
+use Rattle.tables.specs.FixedVec.{used}
 use Rattle.tree.specs.declared.table.TreeTable.{TreeTable}
 use Rattle.tree.specs.declared.refusal.TreeRefusal.{TreeRefusal}
 use Rattle.tree.specs.declared.refusal.TreeRefusal.TheVariants.{NoSuch, BadInterface, Full}
 
 -- the rows that count
 abbrev pub shape_of : TreeTable → Shape
-shape_of t = record { firewalls = take t.firewall_count t.firewalls; domains = take t.domain_count t.domains }
+shape_of t = record { firewalls = used t.firewalls; domains = used t.domains }
 
 -- two interfaces for a new firewall
 abbrev pub Apart : ℕ → ℕ → Type 0

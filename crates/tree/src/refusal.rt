@@ -1,5 +1,10 @@
 // Why the tree does not grow.
-#[derive(Clone, Copy)]
+ghost use Rattle.std.specs.Prelude.{◌≡◌};
+ghost use Rattle.tree.specs.Refusals.{refusal_of};
+
+use model::Refusal;
+
+#[derive(Clone, Copy, Debug, PartialEq, Eq)]
 pub enum TreeRefusal {
     // There is no such domain or firewall.
     NoSuch,
@@ -7,4 +12,17 @@ pub enum TreeRefusal {
     BadInterface,
     // There are 64 domains.
     Full,
+}
+
+// The refusal of a call that stands for one of the tree.
+impl<V, W> From<TreeRefusal> for Refusal<V, W> {
+    ghost from_gives = { λ refusal answer. answer ≡ refusal_of refusal };
+
+    fn from(refusal: TreeRefusal) -> Refusal<V, W> {
+        match refusal {
+            TreeRefusal::NoSuch => Refusal::NoSuch,
+            TreeRefusal::BadInterface => Refusal::BadInterface,
+            TreeRefusal::Full => Refusal::Full,
+        }
+    }
 }

@@ -13,7 +13,7 @@ impl TreeTable {
     pub fn depth(&self, domain: usize) -> Option<usize>
         ensures { MatchOption result (Domain (shape_of self.now) domain → ⊥) (λ n. Depth (shape_of self.now) domain n) }
     {
-        if domain > self.domain_count {
+        if domain >= self.domain_count() {
             return None;
         }
         Some(self.depth_of(domain))
@@ -21,41 +21,40 @@ impl TreeTable {
 
     // The depth of a domain that there is.
     fn depth_of(&self, domain: usize) -> usize
-        requires { domain ≤ self.now.domain_count }
-        ensures { (result ≤ domain) × Depth (shape_of self.now) domain result }
+        requires { Domain (shape_of self.now) domain }
+        ensures within { result ≤ domain }
+        ensures depth { Depth (shape_of self.now) domain result }
     {
         if domain == 0 {
             return 0;
         }
-        let firewall = self.domains[domain - 1].node;
-        self.depth_of(self.firewalls[firewall].node) + 1
+        self.depth_of(self.hop_up(domain).reached) + 1
     }
 
     // The domain right below the firewall that has this domain in its subtree, if there is one.
     fn branch_toward(&self, firewall: usize, domain: usize) -> Option<usize>
-        requires { domain ≤ self.now.domain_count }
+        requires { Domain (shape_of self.now) domain }
         ensures { BranchOf (shape_of self.now) firewall domain result }
     {
         if domain == 0 {
             return None;
         }
-        let own = self.domains[domain - 1].node;
-        if own == firewall {
+        let up = self.hop_up(domain);
+        if up.firewall == firewall {
             return Some(domain);
         }
-        self.branch_toward(firewall, self.firewalls[own].node)
+        self.branch_toward(firewall, up.reached)
     }
 
     // The domain below a firewall of `top` that has this domain in its subtree, if there is one.
     fn child_toward(&self, top: usize, domain: usize) -> Option<usize>
-        requires { domain ≤ self.now.domain_count }
+        requires { Domain (shape_of self.now) domain }
         ensures { ChildOf (shape_of self.now) top domain result }
     {
         if domain <= top {
             return None;
         }
-        let own = self.domains[domain - 1].node;
-        let above = self.firewalls[own].node;
+        let above = self.hop_up(domain).reached;
         if above == top {
             return Some(domain);
         }
@@ -64,72 +63,57 @@ impl TreeTable {
 
     // The first hop of the way between two domains.
     pub(crate) fn hop_toward(&self, from: usize, to: usize) -> Hop
-        requires here { from ≤ self.now.domain_count }
-        requires there { to ≤ self.now.domain_count }
+        requires here { Domain (shape_of self.now) from }
+        requires there { Domain (shape_of self.now) to }
         requires apart { from ≢ to }
         ensures { Way (shape_of self.now) from to result }
     {
         if let Some(child) = self.child_toward(from, to) {
             return self.hop_down(child);
         }
-        let own = self.lower(from);
-        if let Some(branch) = self.branch_toward(own.node, to) {
-            return self.hop_across(from, branch);
+        let up = self.hop_up(from);
+        if let Some(branch) = self.branch_toward(up.firewall, to) {
+            // To another domain below the same firewall.
+            return Hop {
+                left: self.hop_up(branch).entered,
+                reached: branch,
+                ..up
+            };
         }
-        self.hop_up(from)
+        up
     }
 
     // The hop to the domain above.
     fn hop_up(&self, domain: usize) -> Hop
         requires some { 0 < domain }
-        requires domain { domain ≤ self.now.domain_count }
+        requires domain { Domain (shape_of self.now) domain }
         ensures from { Lies (shape_of self.now) domain result.firewall result.entered }
         ensures onto { Hangs (shape_of self.now) result.firewall result.reached result.left }
+        ensures falls { result.reached < domain }
     {
-        let own = self.lower(domain);
-        let upper = self.upper(own.node);
+        let lower = self.domains.as_slice()[domain - 1];
+        let upper = self.firewalls.as_slice()[lower.node];
         Hop {
-            firewall: own.node,
-            entered: own.interface,
+            firewall: lower.node,
+            entered: lower.interface,
             left: upper.interface,
             reached: upper.node,
         }
     }
 
-    // The hop to a domain below the same firewall.
-    fn hop_across(&self, from: usize, to: usize) -> Hop
-        requires some { 0 < from }
-        requires domain { from ≤ self.now.domain_count }
-        requires other { 0 < to }
-        requires there { to ≤ self.now.domain_count }
-        ensures from { Lies (shape_of self.now) from result.firewall result.entered }
-        ensures onto { (f : ℕ) × Lies (shape_of self.now) to f result.left }
-        ensures reached { result.reached ≡ to }
-    {
-        let near = self.lower(from);
-        let far = self.lower(to);
-        Hop {
-            firewall: near.node,
-            entered: near.interface,
-            left: far.interface,
-            reached: to,
-        }
-    }
-
-    // The hop down to a domain.
+    // The hop down to a domain: the one up from there, backwards.
     fn hop_down(&self, domain: usize) -> Hop
         requires some { 0 < domain }
-        requires domain { domain ≤ self.now.domain_count }
+        requires domain { Domain (shape_of self.now) domain }
         ensures from { (u : ℕ) × Hangs (shape_of self.now) result.firewall u result.entered }
         ensures onto { Lies (shape_of self.now) domain result.firewall result.left }
         ensures reached { result.reached ≡ domain }
     {
-        let lower = self.lower(domain);
-        let above = self.upper(lower.node);
+        let up = self.hop_up(domain);
         Hop {
-            firewall: lower.node,
-            entered: above.interface,
-            left: lower.interface,
+            firewall: up.firewall,
+            entered: up.left,
+            left: up.entered,
             reached: domain,
         }
     }

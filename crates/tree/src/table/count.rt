@@ -9,12 +9,12 @@ impl TreeTable {
     pub fn domain_count(&self) -> usize
         ensures { result ≡ suc (length (shape_of self.now).domains) }
     {
-        self.domain_count + 1
+        self.domains.len() + 1
     }
 
     pub fn firewall_count(&self) -> usize
         ensures { result ≡ length (shape_of self.now).firewalls }
     {
-        self.firewall_count
+        self.firewalls.len()
     }
 }

@@ -2,18 +2,16 @@
 ghost use Rattle.tree.specs.Path.{RouteOf};
 
 use super::TreeTable;
-use crate::path::{HOPS, Route};
+use crate::path::Route;
 use model::Hop;
+use tables::FixedVec;
 
 impl TreeTable {
     // The route from one domain to another; nothing where either does not exist.
     pub fn route(&self, from: usize, to: usize) -> Option<Route>
         ensures { RouteOf self.now from to result }
     {
-        if from > self.domain_count {
-            return None;
-        }
-        if to > self.domain_count {
+        if from >= self.domain_count() || to >= self.domain_count() {
             return None;
         }
         let none = Hop {
@@ -22,15 +20,13 @@ impl TreeTable {
             left: 0,
             reached: 0,
         };
-        let mut hops = [none; HOPS];
-        let mut count = 0;
+        let mut hops = FixedVec::new(none);
         let mut at = from;
         while at != to {
             let hop = self.hop_toward(at, to);
-            hops[count] = hop;
-            count += 1;
+            hops.push(hop).unwrap();
             at = hop.reached;
         }
-        Some(Route { hops, count })
+        Some(Route { hops })
     }
 }

@@ -1,11 +1,12 @@
 // How a tree begins and grows.
-ghost use Rattle.std.specs.Prelude.{◌≡◌, ℕ, suc, ◌<◌, ◌≤◌, length};
-ghost use Rattle.model.specs.Shape.{Joined, bare, attached, branched};
-ghost use Rattle.tree.specs.Table.{shape_of, Apart, Attaches, Branches};
+ghost use Rattle.std.specs.Prelude.{◌≡◌, suc, ◌<◌, length};
+ghost use Rattle.model.specs.Shape.{Domain, Firewall, bare, attached, branched};
+ghost use Rattle.tree.specs.Table.{shape_of, Apart, Free, Attaches, Branches};
 
-use super::{ROWS, TreeTable};
+use super::TreeTable;
 use crate::refusal::TreeRefusal;
-use model::{MAX_INTERFACES, Uplink};
+use model::{MAX_DOMAINS, MAX_INTERFACES, Uplink};
+use tables::FixedVec;
 
 impl TreeTable {
     // Domain 0 alone.
@@ -17,10 +18,8 @@ impl TreeTable {
             interface: 0,
         };
         TreeTable {
-            firewalls: [none; ROWS],
-            firewall_count: 0,
-            domains: [none; ROWS],
-            domain_count: 0,
+            firewalls: FixedVec::new(none),
+            domains: FixedVec::new(none),
         }
     }
 
@@ -34,13 +33,13 @@ impl TreeTable {
     ) -> Result<(usize, usize), TreeRefusal>
         ensures { Attaches self.old domain upper lower result self.new }
     {
-        if domain > self.domain_count {
+        if domain >= self.domain_count() {
             return Err(TreeRefusal::NoSuch);
         }
         if upper >= MAX_INTERFACES || lower >= MAX_INTERFACES || upper == lower {
             return Err(TreeRefusal::BadInterface);
         }
-        if self.domain_count >= ROWS {
+        if self.domain_count() >= MAX_DOMAINS {
             return Err(TreeRefusal::Full);
         }
         Ok(self.hang(domain, upper, lower))
@@ -50,16 +49,13 @@ impl TreeTable {
     pub fn branch(&mut self, firewall: usize, interface: u32) -> Result<usize, TreeRefusal>
         ensures { Branches self.old firewall interface result self.new }
     {
-        if firewall >= self.firewall_count {
+        if firewall >= self.firewall_count() {
             return Err(TreeRefusal::NoSuch);
         }
-        if interface >= MAX_INTERFACES {
+        if interface >= MAX_INTERFACES || self.in_use(firewall, interface) {
             return Err(TreeRefusal::BadInterface);
         }
-        if let Some(_) = self.user(firewall, interface) {
-            return Err(TreeRefusal::BadInterface);
-        }
-        if ROWS <= self.domain_count {
+        if self.domain_count() >= MAX_DOMAINS {
             return Err(TreeRefusal::Full);
         }
         Ok(self.add(firewall, interface))
@@ -67,43 +63,42 @@ impl TreeTable {
 
     // Writes the rows of a firewall and a domain below it.
     fn hang(&mut self, domain: usize, upper: u32, lower: u32) -> (usize, usize)
-        requires domain { domain ≤ self.old.domain_count }
+        requires domain { Domain (shape_of self.old) domain }
         requires apart { Apart upper lower }
-        requires room { self.old.domain_count < 63 }
+        requires room { length (shape_of self.old).domains < 63 }
         ensures firewall { result.0 ≡ length (shape_of self.old).firewalls }
         ensures domain { result.1 ≡ suc (length (shape_of self.old).domains) }
         ensures shape { shape_of self.new ≡ attached (shape_of self.old) domain upper lower }
     {
-        let firewall = self.firewall_count;
-        let below = self.domain_count;
-        self.firewalls[firewall] = Uplink {
+        let firewall = self.firewalls.len();
+        let below = self.domains.len() + 1;
+        let upper = Uplink {
             node: domain,
             interface: upper as u8,
         };
-        self.firewall_count = firewall + 1;
-        self.domains[below] = Uplink {
+        let lower = Uplink {
             node: firewall,
             interface: lower as u8,
         };
-        self.domain_count = below + 1;
-        (firewall, below + 1)
+        self.firewalls.push(upper).unwrap();
+        self.domains.push(lower).unwrap();
+        (firewall, below)
     }
 
     // Writes the row of a domain.
     fn add(&mut self, firewall: usize, interface: u32) -> usize
-        requires firewall { firewall < self.old.firewall_count }
-        requires low { interface < 32 }
-        requires free { (d : ℕ) → Joined (shape_of self.old) firewall d interface → ⊥ }
-        requires room { self.old.domain_count < 63 }
+        requires firewall { Firewall (shape_of self.old) firewall }
+        requires free { Free (shape_of self.old) firewall interface }
+        requires room { length (shape_of self.old).domains < 63 }
         ensures domain { result ≡ suc (length (shape_of self.old).domains) }
         ensures shape { shape_of self.new ≡ branched (shape_of self.old) firewall interface }
     {
-        let below = self.domain_count;
-        self.domains[below] = Uplink {
+        let below = self.domains.len() + 1;
+        let lower = Uplink {
             node: firewall,
             interface: interface as u8,
         };
-        self.domain_count = below + 1;
-        below + 1
+        self.domains.push(lower).unwrap();
+        below
     }
 }

@@ -1,66 +1,26 @@
-use Rattle.std.proofs.Common.{◌≡◌, ℕ, ◌+◌, ◌<◌, ◌≤◌, length, set, arith, length-set, length-take-le}
-use Rattle.model.specs.declared.path.Uplink.{Uplink}
-use Rattle.tree.proofs.Rows.{low_more, single_more, hung_more, below_more, falling_more, lower_more, falling_kept, lower_kept, node_new, interface_new}
-use Rattle.tree.proofs.Tables.{shape_attached, count_domains, count_firewalls}
+use Rattle.std.proofs.Common.{sym, subst, length, ◌<◌, arith}
+use Rattle.tables.specs.FixedVec.{used}
+use Rattle.tree.proofs.Rows.{Ruled, attached_ruled, pushed}
+use Rattle.tree.proofs.Tables.{ruled_of}
 use Rattle.tree.proofs.table.TreeTable.hang.Goals as goal
 
 pub invariant_of-self : goal.invariant_of-self
 invariant_of-self c =
     let t = c.args.self.now in
-    let n : ℕ = t.firewall_count in
-    let m : ℕ = t.domain_count in
-    let d : ℕ = c.args.domain in
-    let upper : Uplink = record { node = d; interface = c.args.upper } in
-    let lower : Uplink = record { node = n; interface = c.args.lower } in
-    let few = t.few in
     let fewer = t.fewer in
-    let long = t.long in
-    let wide = t.wide in
-    let room : m < 63 = omega arith in
-    let fit : n < length t.firewalls = omega arith in
-    let fits : m < length t.domains = omega arith in
-    let old : d ≤ m = omega arith in
-    let top = node_new t.firewalls n upper fit n (λ _. n) in
-    let by = interface_new t.firewalls n upper fit n (λ _. n) in
-    let hung = hung_more t.firewalls n upper fit m (m + 1) t.hung (omega arith) (omega arith) in
-    let below = below_more t.domains m lower fits n (n + 1) t.below (omega arith) (omega arith) in
-    let falling = falling_more (set t.firewalls n upper) t.domains m lower fits (falling_kept t.firewalls t.domains n m upper fit t.below t.falling) (omega arith) in
-    let single = single_more t.domains m lower fits t.single (λ k less same through. let old = t.below k less in omega arith) in
-    let apart = lower_more (set t.firewalls n upper) t.domains m lower fits (lower_kept t.firewalls t.domains n m upper fit t.below t.lower) (λ e. omega arith) in
-    let low = low_more t.firewalls n upper fit t.low (omega arith) in
-    let lowest = low_more t.domains m lower fits t.lowest (omega arith) in
-    let more : length (set t.firewalls n upper) ≡ 63 = simp length-set long in
-    let wider : length (set t.domains m lower) ≡ 63 = simp length-set wide in
-    let measured = length-take-le (n + 1) (set t.firewalls n upper) (omega arith) in
-    let counted = length-take-le (m + 1) (set t.domains m lower) (omega arith) in
+    let room : length (used t.domains) < 63 = c.requires.room in
+    let fit : length (used t.firewalls) < 63 = omega arith in
+    let firewalls = pushed c.push.result c.push.ensures.room fit c.push.ensures.after in
+    let domains = pushed c.push-2.result c.push-2.ensures.room room c.push-2.ensures.after in
+    let new = attached_ruled (used t.firewalls) (used t.domains) (ruled_of t) c.args.domain c.args.upper c.len-firewall.result c.args.lower c.len-firewall.ensures.len c.requires.domain c.requires.apart.0 c.requires.apart.1 c.requires.apart.2 in
+    let r = subst (λ fs. Ruled fs (used c.push-2.new.self)) (sym firewalls) (subst (Ruled _) (sym domains) new) in
     record {
-      long = more;
-      wide = wider;
-      measured = measured;
-      counted = counted;
-      few = omega arith;
-      fewer = omega arith;
-      hung = hung;
-      below = below;
-      falling = falling;
-      single = single;
-      lower = apart;
-      low = low;
-      lowest = lowest;
-    }
-
-pub returns : goal.returns
-returns c =
-    let t = c.args.self.now in
-    let few = t.few in
-    let fewer = t.fewer in
-    let long = t.long in
-    let wide = t.wide in
-    let firewalls = count_firewalls t in
-    let domains = count_domains t in
-    let room = c.requires.room in
-    record {
-      firewall = omega arith;
-      domain = omega arith;
-      shape = shape_attached t.firewalls t.domains t.firewall_count t.domain_count c.args.domain c.args.upper c.args.lower (omega arith) (omega arith);
+      fewer = r.fewer;
+      hung = r.hung;
+      below = r.below;
+      falling = r.falling;
+      single = r.single;
+      lower = r.lower;
+      low = r.low;
+      lowest = r.lowest;
     }
