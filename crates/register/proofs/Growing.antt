@@ -12,7 +12,7 @@ use Rattle.tree.specs.Table.{shape_of, Branches, Free}
 use Rattle.tree.specs.declared.refusal.TreeRefusal as refused
 use Rattle.tree.specs.declared.refusal.TreeRefusal.{TreeRefusal}
 use Rattle.tree.specs.declared.table.TreeTable.{TreeTable}
-use Rattle.register.specs.Order.{refusal_of}
+use Rattle.tree.specs.Refusals.{refusal_of}
 use Rattle.register.proofs.Order.{Below, below_one, more, none, refuse}
 
 -- a refused branch leaves the tree as it was

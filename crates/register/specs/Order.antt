@@ -5,11 +5,8 @@ use Rattle.model.specs.Refusals.{number, Applies}
 use Rattle.model.specs.Tree.{Tree}
 use Rattle.model.specs.declared.answers.Answer as answer
 use Rattle.model.specs.declared.answers.Lent.{Lent}
-use Rattle.model.specs.declared.answers.Refusal as refusal
 use Rattle.model.specs.declared.answers.Refusal.{Refusal}
 use Rattle.model.specs.declared.calls.Call.{Call}
-use Rattle.tree.specs.declared.refusal.TreeRefusal as tree
-use Rattle.tree.specs.declared.refusal.TreeRefusal.{TreeRefusal}
 
 module _ {A R V W : Type 0} (addr : A → V → Type 0) (rests : R → W → Type 0) where
   -- no refusal with a number below n applies
@@ -30,9 +27,3 @@ Refuses (Err q) e cause = (q ≡ e) × cause
 abbrev pub Demands : {X E : Type 0} → Result X E → E → Type 0 → Type 0
 Demands (Ok x) e fact = fact
 Demands (Err q) e fact = (q ≡ e) × (fact → ⊥)
-
--- the refusal that stands for one of the tree table
-abbrev pub refusal_of : {V W : Type 0} → TreeRefusal → Refusal V W
-refusal_of tree.TheVariants.NoSuch = refusal.TheVariants.NoSuch
-refusal_of tree.TheVariants.BadInterface = refusal.TheVariants.BadInterface
-refusal_of tree.TheVariants.Full = refusal.TheVariants.Full

@@ -4,7 +4,6 @@ ghost use Rattle.model.specs.Tree.{all_interfaces};
 ghost use Rattle.model.specs.declared.answers.Answer.TheVariants.{Branched};
 ghost use Rattle.model.specs.declared.calls.Call.TheVariants.{Attach, Branch};
 ghost use Rattle.register.specs.Memory.{SameMemory, lent_by, tables_of};
-ghost use Rattle.register.specs.Order.{refusal_of};
 ghost use Rattle.register.specs.Picture.{Tried, attached_as};
 ghost use Rattle.register.specs.Rows.{catch_all};
 
@@ -15,18 +14,6 @@ use checks::rule_row;
 use kinds::{Kind, Set};
 use model::{Decision, Refusal, Rule};
 use tables::replace_row;
-use tree::TreeRefusal;
-
-// The refusal that stands for one of the tree table.
-fn refusal_of<V, W>(refusal: TreeRefusal) -> Refusal<V, W>
-    ensures { result ≡ refusal_of refusal }
-{
-    match refusal {
-        TreeRefusal::NoSuch => Refusal::NoSuch,
-        TreeRefusal::BadInterface => Refusal::BadInterface,
-        TreeRefusal::Full => Refusal::Full,
-    }
-}
 
 // All of 0 to 31. Of `Set::up_to(31)` it is known what it holds, but not that it is this mask.
 #[tactic(auto, using(crate::proofs::Attaching::reads_all))]
@@ -69,14 +56,10 @@ impl<A: Kind, R: Kind> Register<A, R> {
         self.check_attach_room()?;
         let row = rule_row(self.catch_all(decision));
         let total = self.lists.total();
-        match self.tree.attach(domain, upper, lower) {
-            Err(refusal) => Err(refusal_of(refusal)),
-            Ok(made) => {
-                let _ = replace_row(memory.rules, total + 1, total, row);
-                let _ = self.lists.add();
-                Ok(made)
-            }
-        }
+        let made = self.tree.attach(domain, upper, lower)?;
+        let _ = replace_row(memory.rules, total + 1, total, row);
+        let _ = self.lists.add();
+        Ok(made)
     }
 
     // Hangs the next domain below a firewall.
@@ -89,9 +72,6 @@ impl<A: Kind, R: Kind> Register<A, R> {
         ensures { Tried A.Kind R.Kind self.old (tables_of memory.now) (Branch firewall interface) (lent_by memory.now) Branched result self.new (tables_of memory.now) }
     {
         memory.check_lengths()?;
-        match self.tree.branch(firewall, interface) {
-            Ok(domain) => Ok(domain),
-            Err(refusal) => Err(refusal_of(refusal)),
-        }
+        Ok(self.tree.branch(firewall, interface)?)
     }
 }

@@ -48,14 +48,14 @@ returns-in_err-check_attach_room-clause-does g c =
     c.args.self.now s _ Full cause.0 c.from_residual-in_err-check_attach_room.result c.from_residual-in_err-check_attach_room.ensures.1 long
     (λ t reached pic. attach_full g.A.Kind g.R.Kind c.args.self.now s t pic c.args.domain c.args.upper c.args.lower c.args.decision (lent_by c.args.memory.now) long there apart cause.1)
 
-pub returns-in-Err-clause-does : goal.returns-in-Err-clause-does
-returns-in-Err-clause-does g c =
+pub returns-in_err-made-clause-does : goal.returns-in_err-made-clause-does
+returns-in_err-made-clause-does g c =
     let tree = c.args.self.now.tree in
-    absurd (attach_sure tree c.attach.new.self c.args.domain c.args.upper c.args.lower c.in-Err.refusal (domain_there tree c.args.domain c.in_ok-check_domain.ensures)
-    (interfaces_apart c.args.upper c.args.lower c.in_ok-check_interfaces.ensures) (λ h. c.in_ok-check_attach_room.ensures (inl h)) c.in-Err.ensures)
+    absurd (attach_sure tree c.attach.new.self c.args.domain c.args.upper c.args.lower c.in_err-made.field-0.0 (domain_there tree c.args.domain c.in_ok-check_domain.ensures)
+    (interfaces_apart c.args.upper c.args.lower c.in_ok-check_interfaces.ensures) (λ h. c.in_ok-check_attach_room.ensures (inl h)) c.in_err-made.ensures)
 
-pub returns-in-Ok-clause-does : goal.returns-in-Ok-clause-does
-returns-in-Ok-clause-does g c =
+pub returns-clause-does : goal.returns-clause-does
+returns-clause-does g c =
     let long = c.in_ok-check_lengths.ensures in
     let there = c.in_ok-check_domain.ensures in
     let apart = c.in_ok-check_interfaces.ensures in
@@ -63,7 +63,7 @@ returns-in-Ok-clause-does g c =
     let was = c.args.self.now in
     let s = tables_of c.args.memory.now in
     let w = c.args.decision in
-    let a = c.in-Ok.ensures in
+    let a = c.in_ok-made.ensures in
     let written = attach_rows g.A.Kind.plain g.R.Kind.plain was w (lent_by c.args.memory.now) long (λ h. room (inr h)) c.args.memory.now.rules.now c.replace_row.new.rows refl c.total-total.result c.rule_row-row.result c.catch_all.result
     c.total-total.ensures c.rule_row-row.ensures c.catch_all.ensures (is_some c.replace_row.result) c.replace_row.ensures.there c.replace_row.ensures.after in
     record {
@@ -71,7 +71,7 @@ returns-in-Ok-clause-does g c =
           let grown = reached_grown g.A.Kind.holds g.R.Kind.holds t reached in
           let free = attach_room g.A.Kind g.R.Kind was s t pic c.args.domain c.args.upper c.args.lower w (lent_by c.args.memory.now) long grown (λ h. room (inl h)) in
           let lens = chosen (is_ok c.add.result) _ _ _ c.add.ensures.room (free, room_for_one max_rules (rule_count was) (λ h. room (inr h))) c.add.ensures.after in (
-            attach_right g.A.Kind g.R.Kind was s t pic c.args.domain c.args.upper c.args.lower w (lent_by c.args.memory.now) long there apart room c.in-Ok.made c.attach.new.self a,
+            attach_right g.A.Kind g.R.Kind was s t pic c.args.domain c.args.upper c.args.lower w (lent_by c.args.memory.now) long there apart room c.in_ok-made.made c.attach.new.self a,
             record {
               addresses = pic.addresses;
               rests = pic.rests;
