@@ -3,8 +3,8 @@ use Rattle.model.specs.declared.answers.Refusal.TheVariants.{TooShort, NoSuch}
 use Rattle.model.specs.declared.calls.Call.TheVariants.{Ask}
 use Rattle.register.specs.Picture.{asked_as}
 use Rattle.register.specs.Memory.{lent_by, tables_of}
-use Rattle.register.proofs.Asking.{owned_apart, frames_enough, break_frames, ask_nowhere, ask_misfits, ask_turns}
-use Rattle.register.proofs.Tries.{tried_exit, tried_exit_short, tried_exit_right, reached_grown}
+use Rattle.register.proofs.Asking.{frames_enough, break_frames, ask_nowhere, ask_misfits, ask_turns}
+use Rattle.register.proofs.Tries.{owned_apart, tried_exit, tried_exit_short, tried_exit_right, reached_grown}
 use Rattle.register.proofs.state.Register.try_ask.Goals as goal
 
 pub returns-in_err-check_lengths-clause-does : goal.returns-in_err-check_lengths-clause-does
@@ -30,7 +30,7 @@ returns-in_err-check_offer-clause-does g c =
     tried_exit_right g.A.Kind g.R.Kind (Ask c.args.property) (lent_by c.args.memory.now) asked_as was s _ c.from_residual-in_err-check_offer.result c.from_residual-in_err-check_offer.ensures.1 long
     (λ t reached pic.
     let grown = reached_grown g.A.Kind.holds g.R.Kind.holds t reached in
-    elim (c.in_err-check_offer.ensures t pic.addresses pic.rests pic.shape (owned_apart g.A.Kind g.R.Kind was s t pic grown) pic.blocks) [
+    elim (c.in_err-check_offer.ensures t pic.addresses pic.rests pic.shape (owned_apart g.A.Kind.holds g.R.Kind.holds t grown) pic.blocks) [
       | inl short ↦ absurd (frames_enough g.A.Kind g.R.Kind was s t pic (lent_by c.args.memory.now) long _ refl short)
       | inr misfit ↦ ask_misfits g.A.Kind g.R.Kind was s t pic c.args.property (lent_by c.args.memory.now) long c.in_ok-check_between.ensures _ misfit
     ])
@@ -51,7 +51,7 @@ returns-clause-does g c =
     record {
       turns = λ t reached pic.
           let grown = reached_grown g.A.Kind.holds g.R.Kind.holds t reached in
-          let fits = c.in_ok-check_offer.ensures t pic.addresses pic.rests pic.shape (owned_apart g.A.Kind g.R.Kind was s t pic grown) pic.blocks in
+          let fits = c.in_ok-check_offer.ensures t pic.addresses pic.rests pic.shape (owned_apart g.A.Kind.holds g.R.Kind.holds t grown) pic.blocks in
           ask_turns g.A.Kind g.R.Kind was s t pic c.args.property (lent_by c.args.memory.now) long c.in_ok-check_between.ensures fits (length c.args.memory.now.packet_frames.now) c.in_ok-first_break.field-0 (c.in_ok-first_break.ensures t pic.shape pic.lists);
       register = tt;
       tables = refl;

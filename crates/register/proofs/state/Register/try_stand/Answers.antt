@@ -6,9 +6,9 @@ use Rattle.model.specs.declared.calls.Call.TheVariants.{Stand}
 use Rattle.checks.specs.Rows.{property_row}
 use Rattle.register.specs.Rows.{with_properties}
 use Rattle.register.specs.Memory.{lent_by, tables_of}
-use Rattle.register.proofs.Asking.{owned_apart, frames_enough, break_frames}
+use Rattle.register.proofs.Asking.{frames_enough, break_frames}
 use Rattle.register.proofs.Standing.{stand_nowhere, stand_full, stand_misfits, stand_breaks, stand_right, stand_rows, stand_pictures, stand_count}
-use Rattle.register.proofs.Tries.{tried_exit, tried_exit_short, tried_exit_right, reached_grown}
+use Rattle.register.proofs.Tries.{owned_apart, tried_exit, tried_exit_short, tried_exit_right, reached_grown}
 use Rattle.register.proofs.state.Register.try_stand.Goals as goal
 
 pub returns-in_err-check_lengths-clause-does : goal.returns-in_err-check_lengths-clause-does
@@ -44,7 +44,7 @@ returns-in_err-check_offer-clause-does g c =
     tried_exit_right g.A.Kind g.R.Kind (Stand c.args.property) (lent_by c.args.memory.now) (λ _. Done) was s _ c.from_residual-in_err-check_offer.result c.from_residual-in_err-check_offer.ensures.1 long
     (λ t reached pic.
     let grown = reached_grown g.A.Kind.holds g.R.Kind.holds t reached in
-    elim (c.in_err-check_offer.ensures t pic.addresses pic.rests pic.shape (owned_apart g.A.Kind g.R.Kind was s t pic grown) pic.blocks) [
+    elim (c.in_err-check_offer.ensures t pic.addresses pic.rests pic.shape (owned_apart g.A.Kind.holds g.R.Kind.holds t grown) pic.blocks) [
       | inl short ↦ absurd (frames_enough g.A.Kind g.R.Kind was s t pic (lent_by c.args.memory.now) long _ refl short)
       | inr misfit ↦ stand_misfits g.A.Kind g.R.Kind was s t pic c.args.property (lent_by c.args.memory.now) long c.in_ok-check_between.ensures c.in_ok-check_room.ensures _ misfit
     ])
@@ -57,7 +57,7 @@ returns-in_err-check_offer_kept-clause-does g c =
     tried_exit_right g.A.Kind g.R.Kind (Stand c.args.property) (lent_by c.args.memory.now) (λ _. Done) was s _ c.from_residual-in_err-check_offer_kept.result c.from_residual-in_err-check_offer_kept.ensures.1 long
     (λ t reached pic.
     let grown = reached_grown g.A.Kind.holds g.R.Kind.holds t reached in
-    let fits = c.in_ok-check_offer.ensures t pic.addresses pic.rests pic.shape (owned_apart g.A.Kind g.R.Kind was s t pic grown) pic.blocks in
+    let fits = c.in_ok-check_offer.ensures t pic.addresses pic.rests pic.shape (owned_apart g.A.Kind.holds g.R.Kind.holds t grown) pic.blocks in
     elim (c.in_err-check_offer_kept.ensures t pic.shape pic.lists) [
       | inl short ↦ absurd (break_frames g.A.Kind g.R.Kind was s t pic (lent_by c.args.memory.now) long _ refl short)
       | inr (f, k, is, b) ↦ stand_breaks g.A.Kind g.R.Kind was s t pic c.args.property (lent_by c.args.memory.now) long c.in_ok-check_between.ensures c.in_ok-check_room.ensures fits _ f k is b
@@ -76,7 +76,7 @@ returns-clause-does g c =
     record {
       turns = λ t reached pic.
           let grown = reached_grown g.A.Kind.holds g.R.Kind.holds t reached in
-          let fits = c.in_ok-check_offer.ensures t pic.addresses pic.rests pic.shape (owned_apart g.A.Kind g.R.Kind was s t pic grown) pic.blocks in (
+          let fits = c.in_ok-check_offer.ensures t pic.addresses pic.rests pic.shape (owned_apart g.A.Kind.holds g.R.Kind.holds t grown) pic.blocks in (
             stand_right g.A.Kind g.R.Kind was s t pic p (lent_by c.args.memory.now) long between room fits (c.in_ok-check_offer_kept.ensures t pic.shape pic.lists),
             record {
               addresses = pic.addresses;
