@@ -1,9 +1,8 @@
 -- Stand and ask: an offered property, down the refusal table.
-use Rattle.std.proofs.Common.{◌≡◌, ℕ, ◌-◌, ◌≤◌, ◌⊎◌, List, map, length, take, Some, None, Ok, Option, sym, refl, ap, ◌∙◌, subst, subst₂, inl, inr, arith, MatchOption}
+use Rattle.std.proofs.Common.{◌≡◌, ℕ, ◌-◌, ◌≤◌, ◌⊎◌, List, map, length, take, Some, None, Ok, Option, sym, refl, ap, ◌∙◌, subst, subst₂, arith, MatchOption}
 use native.Mathlib.Nat.{sub-zero}
-use Rattle.std.proofs.lemmas.Bool.{cases_lt}
 use Rattle.kinds.specs.declared.kind.Kind.{Ghosts}
-use Rattle.model.specs.Limits.{max_blocks, max_list, min_packet_frames, min_address_frames}
+use Rattle.model.specs.Limits.{max_list}
 use Rattle.model.specs.Properties.{IsSourceAstray, IsDestinationAstray}
 use Rattle.model.specs.Record.{Right, then_tree}
 use Rattle.model.specs.Refusals.{Applies, IsTooShort, PropertyInside, AllInside, Overlaps, Misjoined, offered}
@@ -36,6 +35,8 @@ use Rattle.register.specs.Offers.Misfits.{outside, unjoined, source, destination
 use Rattle.register.specs.Picture.{Pictures, asked_as}
 use Rattle.register.specs.Rows.{Stored}
 use Rattle.register.specs.declared.state.Register.{Register}
+use Rattle.register.proofs.Lent.{lent_enough}
+use Rattle.register.proofs.Tries.{owned_apart}
 use Rattle.register.proofs.Order.{Below, below_one, more, none, refuse}
 
 -- a network that is the register's stands for the tree that the register does
@@ -46,27 +47,17 @@ drawn pa pr t n tree lists rules (same, (at, of)) shape laid = record {
   lists = subst₂ (λ l r. Laid (rule_entry pa pr) (lengths_of l) r t.lists) (sym at) (sym of) laid;
 }
 
--- the frames lent are enough
-pub packets_enough : (l : Lent) → (IsTooShort l → ⊥) → min_packet_frames ≤ l.packet_frames
-packets_enough l long = elim (cases_lt l.packet_frames min_packet_frames) [ inl less ↦ absurd (long (inr (inr (inr (inl less))))) | inr le ↦ le ]
-
-pub addresses_enough : (l : Lent) → (IsTooShort l → ⊥) → min_address_frames ≤ l.address_frames
-addresses_enough l long = elim (cases_lt l.address_frames min_address_frames) [ inl less ↦ absurd (long (inr (inr (inr (inr less))))) | inr le ↦ le ]
-
-pub blocks_enough : (l : Lent) → (IsTooShort l → ⊥) → max_blocks ≤ l.blocks
-blocks_enough l long = elim (cases_lt l.blocks max_blocks) [ inl less ↦ absurd (long (inr (inl less))) | inr le ↦ le ]
-
 module _ {A R V W X Y : Type 0} (ka : Ghosts A V X) (kr : Ghosts R W Y) (g : Register A R) (s : Stored X Y) (t : Tree A R) (pic : Pictures ka.plain kr.plain g s t) where
   -- the used blocks, as a call has them
   pub blocks_used : take (g.block_count - 0) s.blocks ≡ map (block_entry ka.plain) t.blocks
   blocks_used = ap (λ n. take n s.blocks) (sub-zero g.block_count) ∙ pic.blocks
 
   pub blocks_are : Grown ka.holds kr.holds t → BlocksAre ka (take g.block_count s.blocks) t
-  blocks_are grown = record { same = pic.blocks; owned = record { owned = λ k b e. (grown.owned k b e).0; apart = grown.apart } }
+  blocks_are grown = record { same = pic.blocks; owned = owned_apart ka.holds kr.holds t grown }
 
   -- the search of the blocks has frames enough
   pub frames_enough : (l : Lent) → (IsTooShort l → ⊥) → (n : ℕ) → l.address_frames ≡ n → n ≤ length t.blocks → ⊥
-  frames_enough l long n is le = let enough = addresses_enough l long in let few = g.blocks in let count = pic.block_count in omega arith
+  frames_enough l long n is le = let enough = lent_enough l long in let few = g.blocks in let count = pic.block_count in omega arith
 
   module _ (p : Property A R) (c : Call A R V W) (l : Lent) where
     -- 2, which stand and ask have alike
@@ -137,4 +128,4 @@ module _ {A R V W X Y : Type 0} (ka : Ghosts A V X) (kr : Ghosts R W Y) (g : Reg
 
   -- a search that had too few frames did not have the frames lent
   pub break_frames : (l : Lent) → (IsTooShort l → ⊥) → (n : ℕ) → l.packet_frames ≡ n → n ≤ max_list → ⊥
-  break_frames l long n is le = let enough = packets_enough l long in omega arith
+  break_frames l long n is le = let enough = lent_enough l long in omega arith

@@ -34,6 +34,7 @@ use Rattle.checks.specs.Rows.{rule_entry}
 use Rattle.register.specs.Picture.{Pictures}
 use Rattle.register.specs.Rows.{Stored, rule_count, catch_all}
 use Rattle.register.specs.declared.state.Register.{Register}
+use Rattle.register.proofs.Lent.{lent_enough}
 use Rattle.register.proofs.Order.{Below, below_one, more, none, refuse}
 use Rattle.register.proofs.Tries.{chosen}
 
@@ -66,7 +67,7 @@ pub attach_rows : {A R X Y : Type 0} (pa : A → X) (pr : R → Y) (g : Register
     → (before after : List (Entry (Pair SetRow (Pair X (Pair X Y))))) → l.rules ≡ length before → (total : ℕ) (row : Entry (Pair SetRow (Pair X (Pair X Y)))) (rule : Rule A R) → total ≡ rule_count g → row ≡ rule_entry pa pr rule → rule ≡ catch_all g w
     → (r : Bool) → Decides r ((total < total + 1) × (total + 1 ≤ length before)) → after ≡ cond r (set before total row) before → after ≡ set before (rule_count g) (rule_entry pa pr (catch_all g w))
 attach_rows pa pr g w l long room before after size total row rule there is whole r tells next =
-    let enough : max_rules ≤ l.rules = elim (cases_lt l.rules max_rules) [ inl less ↦ absurd (long (inl less)) | inr le ↦ le ] in
+    let enough = lent_enough l long in
     chosen r (set before total row) before after tells (omega arith, omega arith) next ∙ ap₂ (λ n x. set before n x) there (is ∙ ap (rule_entry pa pr) whole)
 
 module _ {A R V W X Y : Type 0} (ka : Ghosts A V X) (kr : Ghosts R W Y) (g : Register A R) (s : Stored X Y) (t : Tree A R) (pic : Pictures ka.plain kr.plain g s t)
@@ -118,7 +119,7 @@ module _ {A R V W X Y : Type 0} (ka : Ghosts A V X) (kr : Ghosts R W Y) (g : Reg
   pub attach_lists : (lens : List ℕ) (rules : List (Entry (Pair SetRow (Pair X (Pair X Y))))) → l.rules ≡ length s.rules → (max_rules < rule_count g + 1 → ⊥) → lens ≡ lengths_of g.lists ++ (1 ∷ []) → rules ≡ set s.rules (rule_count g) (rule_entry ka.plain kr.plain (catch_all g w))
       → Laid (rule_entry ka.plain kr.plain) lens rules (t.lists ++ ((whole_rule t w ∷ []) ∷ []))
   attach_lists lens rules size room next is =
-      let enough : max_rules ≤ l.rules = elim (cases_lt l.rules max_rules) [ inl less ↦ absurd (long (inl less)) | inr le ↦ le ] in
+      let enough = lent_enough l long in
       let within : rule_count g < length s.rules = omega arith in
       let rule : catch_all g w ≡ whole_rule t w = λ x. record { interfaces = all_interfaces; source = pic.addresses x; destination = pic.addresses x; rest = pic.rests x; decision = w } in
       subst (λ ns. Laid (rule_entry ka.plain kr.plain) ns rules (t.lists ++ ((whole_rule t w ∷ []) ∷ []))) (sym next)

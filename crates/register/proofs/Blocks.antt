@@ -1,5 +1,5 @@
 -- Blocks given and taken: each answer is right, and the rows picture the tree after it.
-use Rattle.std.proofs.Common.{◌≡◌, ℕ, ◌+◌, ◌-◌, ◌<◌, ◌≤◌, ◌⊎◌, List, [], ◌∷◌, ◌++◌, map, length, take, set, Some, Ok, Err, Result, sym, refl, ap, ◌∙◌, subst, inl, inr, arith}
+use Rattle.std.proofs.Common.{IsErrAnd, ◌≡◌, ℕ, ◌+◌, ◌-◌, ◌<◌, ◌≤◌, ◌⊎◌, List, [], ◌∷◌, ◌++◌, map, length, take, set, Some, Ok, Err, Result, sym, refl, ap, ◌∙◌, subst, inl, inr, arith}
 use native.Mathlib.Decide.{dec_le}
 use Rattle.std.proofs.lemmas.List.{length_push, map_push, take_more_set}
 use Rattle.std.proofs.lemmas.List.Edits.{length-remove}
@@ -8,18 +8,16 @@ use Rattle.kinds.specs.declared.kind.Kind.{Ghosts}
 use Rattle.kinds.specs.Words.{Inside}
 use Rattle.search.specs.First.{First, Nowhere}
 use Rattle.search.specs.declared.list.Entry.{Entry}
-use Rattle.model.specs.Limits.{max_blocks, max_properties, min_address_frames}
+use Rattle.model.specs.Limits.{max_blocks}
 use Rattle.model.specs.Record.{Right}
 use Rattle.model.specs.Refusals.{IsTooShort, SomeAstray, Misplaces}
 use Rattle.model.specs.Shape.{Domain}
 use Rattle.model.specs.Tree as tree
 use Rattle.model.specs.Tree.{Tree, Block, after}
-use Rattle.model.specs.declared.answers.Answer.{Answer}
 use Rattle.model.specs.declared.answers.Answer.TheVariants.{Done, Refused}
 use Rattle.model.specs.declared.answers.Lent.{Lent}
 use Rattle.model.specs.declared.answers.Refusal.{Refusal}
-use Rattle.model.specs.declared.answers.Refusal.TheVariants.{TooShort, NoSuch, Full, Outside, Overlap, Misplaced}
-use Rattle.model.specs.declared.calls.Call.{Call}
+use Rattle.model.specs.declared.answers.Refusal.TheVariants.{NoSuch, Full, Outside, Overlap, Misplaced}
 use Rattle.model.specs.declared.calls.Call.TheVariants.{Give, Take}
 use Rattle.model.proofs.Grown.{Grown, grown_give, grown_take}
 use Rattle.tree.specs.Table.{shape_of}
@@ -35,32 +33,11 @@ use Rattle.register.specs.Blocks.{ApartFrom, AllPlaced}
 use Rattle.register.specs.Picture.{Pictures, Reached, Tried}
 use Rattle.register.specs.Rows.{Stored, with_blocks}
 use Rattle.register.specs.declared.state.Register.{Register}
+use Rattle.register.proofs.Lent.{lent_enough}
 use Rattle.register.proofs.Order.{Cause, Below, below_one, more, none, refuse}
-use Rattle.register.proofs.Tries.{reached_grown, tried_refused, tried_short}
-
--- what the lengths lent leave room for
-pub lengths_are : (l : Lent) → (IsTooShort l → ⊥) → (max_blocks ≤ l.blocks) × (max_properties ≤ l.properties) × (min_address_frames ≤ l.address_frames)
-lengths_are l long =
-    let blocks : l.blocks < max_blocks → ⊥ = λ x. long (inr (inl x)) in
-    let properties : l.properties < max_properties → ⊥ = λ x. long (inr (inr (inl x))) in
-    let frames : l.address_frames < min_address_frames → ⊥ = λ x. long (inr (inr (inr (inr x)))) in
-    (omega arith, omega arith, omega arith)
-
-module _ {A R V W : Type 0} (addr : A → V → Type 0) (rests : R → W → Type 0) where
-  -- the blocks of a tree that is well made
-  pub owned_apart : (t : Tree A R) → Grown addr rests t → OwnedApart addr t.blocks
-  owned_apart t grown = record { owned = λ k b e. (grown.owned k b e).0; apart = grown.apart }
-
-module _ {A R V W X Y : Type 0} (ka : Ghosts A V X) (kr : Ghosts R W Y) (g : Register A R) (s : Stored X Y) (l : Lent) where
-  -- the call is refused by a check, before anything is changed
-  pub tried_lengths : {B : Type 0} (c : Call A R V W) (say : B → Answer V W) (r : Result B (Refusal V W)) → r ≡ Err TooShort → IsTooShort l → Tried ka kr g s c l say r g s
-  tried_lengths c say r is short = subst (λ o. Tried ka kr g s c l say o g s) (sym is) (tried_short ka kr c l say g g s s refl refl short)
+use Rattle.register.proofs.Tries.{owned_apart, reached_grown, tried_exit_right, tried_refused}
 
 module _ {A R V W X Y : Type 0} (ka : Ghosts A V X) (kr : Ghosts R W Y) (g : Register A R) (s : Stored X Y) (l : Lent) (long : IsTooShort l → ⊥) where
-  pub tried_check : {B : Type 0} (c : Call A R V W) (say : B → Answer V W) (r : Result B (Refusal V W)) (q : Refusal V W) → r ≡ Err q
-      → ((t : Tree A R) → Pictures ka.plain kr.plain g s t → Right ka.holds kr.holds t c l (Refused q)) → Tried ka kr g s c l say r g s
-  tried_check c say r q is right = subst (λ o. Tried ka kr g s c l say o g s) (sym is) (tried_refused ka kr c l say g g s s long q refl refl (λ t reached pic. right t pic))
-
   -- what the search over these rows of the blocks says of every tree that they picture
   abbrev Searched : {B : Type 0} → List (Entry X) → Result B (Refusal V W) → Type 0
   Searched rows r = (t : Tree A R) → BlocksAre ka rows t → take g.property_count s.properties ≡ map (property_row ka.plain kr.plain) t.properties → AllPlaced ka.holds kr.holds t r
@@ -161,16 +138,16 @@ module _ {A R V W X Y : Type 0} (ka : Ghosts A V X) (kr : Ghosts R W Y) (g : Reg
 
     module _ (owner : NoOwner → ⊥) (room : max_blocks < g.block_count + 1 → ⊥) (inside : (Inside (ka.holds x) (ka.holds g.addresses) → ⊥) → ⊥) where
       -- a block shares an address with the region
-      pub tried_overlap : {B : Type 0} (r : Result B (Refusal V W)) (q : Refusal V W) → r ≡ Err q → ((bs : List (Block A)) → take g.block_count s.blocks ≡ map (block_entry ka.plain) bs → ApartFrom {X = B} ka.holds bs x (Err q))
+      pub tried_overlap : {B : Type 0} (r : Result B (Refusal V W)) (q : Refusal V W) → IsErrAnd r (λ y. y ≡ q) → ((bs : List (Block A)) → take g.block_count s.blocks ≡ map (block_entry ka.plain) bs → ApartFrom {X = B} ka.holds bs x (Err q))
           → Tried ka kr g s (Give d x) l (λ _. Done) r g s
-      tried_overlap r q is found = tried_check (Give d x) (λ _. Done) r q is (λ t pic.
+      tried_overlap r q is found = tried_exit_right ka kr (Give d x) l (λ _. Done) g s q r is long (λ t reached pic.
           let (k, b, named, first) = found t.blocks pic.blocks in
           subst (λ e. Right ka.holds kr.holds t (Give d x) l (Refused e)) (sym named) (give_overlap t pic owner room inside k b first))
 
       module _ (free : (bs : List (Block A)) → take g.block_count s.blocks ≡ map (block_entry ka.plain) bs → Nowhere (Shares ka.holds x) bs) (size : l.blocks ≡ length s.blocks)
           (rows : List (Entry X)) (are : rows ≡ set s.blocks g.block_count (block_entry ka.plain (record { region = x; domain = d }))) where
         there : g.block_count < length s.blocks
-        there = let long_enough = lengths_are l long in omega arith
+        there = let long_enough = lent_enough l long in omega arith
 
         module _ (t : Tree A R) (reached : Reached {V = V} {W = W} ka.holds kr.holds t) (pic : Pictures ka.plain kr.plain g s t) where
           free_here : Nowhere (Shares ka.holds x) t.blocks
@@ -236,7 +213,7 @@ module _ {A R V W X Y : Type 0} (ka : Ghosts A V X) (kr : Ghosts R W Y) (g : Reg
       low = omega arith
 
       enough : g.block_count ≤ length s.blocks
-      enough = let long_enough = lengths_are l long in let few = g.blocks in omega arith
+      enough = let long_enough = lent_enough l long in let few = g.blocks in omega arith
 
       module _ (t : Tree A R) (reached : Reached {V = V} {W = W} ka.holds kr.holds t) (pic : Pictures ka.plain kr.plain g s t) where
         rows_left : take (g.block_count - 1) rows ≡ map (block_entry ka.plain) (after {V = V} {W = W} t (Take b)).blocks

@@ -38,6 +38,7 @@ use Rattle.register.specs.Order.{Passed, Demands, Refuses}
 use Rattle.register.specs.Picture.{Pictures, Reached, Tried, answered}
 use Rattle.register.specs.Rows.{Stored, stored, rule_count, row_at}
 use Rattle.register.specs.declared.state.Register.{Register}
+use Rattle.register.proofs.Lent.{lent_enough}
 use Rattle.register.proofs.Order.{Cause, Below, below_one, more, none, refuse, passed}
 use Rattle.register.proofs.Tries.{reached_grown, reached_guarded, tried_refused}
 
@@ -256,16 +257,6 @@ module _ {A R V W X Y : Type 0} (ka : Ghosts A V X) (kr : Ghosts R W Y) (g : Reg
         let size = laid_length pic.lists f in
         refuse ka.holds kr.holds t (Lift f p) l NoSuch (lift_two t) (missing g t pic.shape f (list_length g f) p (λ z. omega arith) gone))
 
--- what is lent is as long as is asked
-pub lent_rules : (l : Lent) → (IsTooShort l → ⊥) → max_rules ≤ l.rules
-lent_rules l long = let h : (l.rules < max_rules) → ⊥ = λ z. long (inl z) in omega arith
-
-pub lent_properties : (l : Lent) → (IsTooShort l → ⊥) → max_properties ≤ l.properties
-lent_properties l long = let h : (l.properties < max_properties) → ⊥ = λ z. long (inr (inr (inl z))) in omega arith
-
-pub lent_frames : (l : Lent) → (IsTooShort l → ⊥) → min_packet_frames ≤ l.packet_frames
-lent_frames l long = let h : (l.packet_frames < min_packet_frames) → ⊥ = λ z. long (inr (inr (inr (inl z)))) in omega arith
-
 -- the rows of an edit are within the used ones, and these within the table
 pub record RowsWithin {A R : Type 0} (g : Register A R) (l : Lent) (f : ℕ) : Type 0 where
   pub end : start_of (lengths_of g.lists) f + list_length g f ≤ rule_count g
@@ -280,9 +271,9 @@ rows_within g l long f = record {
   end = start_within (lengths_of g.lists) f;
   short = length_max g.lists f;
   used = sum_max g.lists;
-  rows = lent_rules l long;
-  properties = lent_properties l long;
-  frames = lent_frames l long;
+  rows = (lent_enough l long).rules;
+  properties = (lent_enough l long).properties;
+  frames = (lent_enough l long).packet_frames;
 }
 
 -- a position in the list of f is a used row of a table that is long enough, and so is one to put a rule at, where there is room

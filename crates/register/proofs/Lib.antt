@@ -1,4 +1,5 @@
 pub mod Order
+pub mod Lent
 pub mod Growing
 pub mod Tries
 pub mod Attaching

@@ -1,10 +1,9 @@
 -- Properties that stand, and are taken away.
-use Rattle.std.proofs.Common.{◌≡◌, ℕ, ◌+◌, ◌-◌, ◌<◌, ◌≤◌, Bool, cond, List, [], ◌∷◌, ◌++◌, map, length, take, set, Decides, sym, refl, ap, ◌∙◌, subst, inl, inr, arith}
+use Rattle.std.proofs.Common.{◌≡◌, ℕ, ◌+◌, ◌-◌, ◌<◌, ◌≤◌, Bool, cond, List, [], ◌∷◌, ◌++◌, map, length, take, set, Decides, sym, refl, ap, ◌∙◌, subst, arith}
 use mathlib.Core.List.{map-append}
 use Rattle.std.specs.List.{remove}
 use Rattle.std.proofs.lemmas.List.Edits.{length-remove}
 use Rattle.std.proofs.lemmas.List.{length_push, take_more_set}
-use Rattle.std.proofs.lemmas.Bool.{cases_lt}
 use Rattle.kinds.specs.declared.kind.Kind.{Ghosts}
 use Rattle.model.specs.Limits.{max_properties}
 use Rattle.model.specs.Properties.{Kept, BreaksFirst}
@@ -30,19 +29,16 @@ use Rattle.register.specs.Picture.{Pictures}
 use Rattle.register.specs.Rows.{Stored}
 use Rattle.register.specs.declared.state.Register.{Register}
 use Rattle.register.proofs.Asking.{NowhereBetween, nowhere_there, nowhere_here, misfit_right, fits_below}
+use Rattle.register.proofs.Lent.{lent_enough}
 use Rattle.register.proofs.Order.{Below, below_one, more, none, refuse}
 use Rattle.register.proofs.Tries.{chosen}
-
--- a table that is lent has a row for each property that may stand
-pub properties_enough : (l : Lent) → (IsTooShort l → ⊥) → max_properties ≤ l.properties
-properties_enough l long = elim (cases_lt l.properties max_properties) [ inl less ↦ absurd (long (inr (inr (inl less)))) | inr le ↦ le ]
 
 -- the table of properties after one is taken out
 pub withdraw_rows : {A R X Y : Type 0} (g : Register A R) (n : ℕ) (l : Lent) → (IsTooShort l → ⊥) → (g.property_count ≤ n → ⊥) → (before after : List (PropertyRow X Y)) → l.properties ≡ length before
     → (r : Bool) → Decides r ((n < g.property_count) × (g.property_count ≤ length before)) → after ≡ cond r (row_out g.property_count n before) before → after ≡ row_out g.property_count n before
 withdraw_rows g n l long there before after size r tells next =
     let few = g.properties in
-    let enough = properties_enough l long in
+    let enough = lent_enough l long in
     chosen r (row_out g.property_count n before) before after tells (omega arith, omega arith) next
 
 module _ {A R V W X Y : Type 0} (ka : Ghosts A V X) (kr : Ghosts R W Y) (g : Register A R) (s : Stored X Y) (t : Tree A R) (pic : Pictures ka.plain kr.plain g s t) (l : Lent) (long : IsTooShort l → ⊥) where
@@ -107,7 +103,7 @@ module _ {A R V W : Type 0} (addr : A → V → Type 0) (rests : R → W → Typ
 pub stand_rows : {A R X Y : Type 0} (g : Register A R) (l : Lent) → (IsTooShort l → ⊥) → (max_properties < g.property_count + 1 → ⊥) → (before after : List (PropertyRow X Y)) → l.properties ≡ length before
     → (row new : PropertyRow X Y) → row ≡ new → (r : Bool) → Decides r ((g.property_count < g.property_count + 1) × (g.property_count + 1 ≤ length before)) → after ≡ cond r (set before g.property_count row) before → after ≡ set before g.property_count new
 stand_rows g l long room before after size row new is r tells next =
-    let enough = properties_enough l long in
+    let enough = lent_enough l long in
     chosen r (set before g.property_count row) before after tells (omega arith, omega arith) next ∙ ap (set before g.property_count) is
 
 module _ {A R V W X Y : Type 0} (ka : Ghosts A V X) (kr : Ghosts R W Y) (g : Register A R) (s : Stored X Y) (t : Tree A R) (pic : Pictures ka.plain kr.plain g s t) (p : Property A R) (l : Lent) (long : IsTooShort l → ⊥) where
@@ -150,7 +146,7 @@ module _ {A R V W X Y : Type 0} (ka : Ghosts A V X) (kr : Ghosts R W Y) (g : Reg
 
       pub stand_pictures : (after : List (PropertyRow X Y)) → l.properties ≡ length s.properties → after ≡ set s.properties g.property_count (property_row ka.plain kr.plain p) → take (g.property_count + 1) after ≡ map (property_row ka.plain kr.plain) (t.properties ++ (p ∷ []))
       stand_pictures after size is =
-          let enough = properties_enough l long in
+          let enough = lent_enough l long in
           ap (take (g.property_count + 1)) is ∙ take_more_set s.properties g.property_count (property_row ka.plain kr.plain p) (omega arith)
           ∙ ap (λ ps. ps ++ (property_row ka.plain kr.plain p ∷ [])) pic.properties ∙ sym (map-append (property_row ka.plain kr.plain) t.properties (p ∷ []))
 

@@ -17,6 +17,7 @@ use Rattle.model.specs.declared.answers.Refusal.TheVariants.{TooShort}
 use Rattle.model.specs.declared.calls.Call.{Call}
 use Rattle.model.proofs.Grown.{Grown, grown_plain}
 use Rattle.model.proofs.Meanings.{guarded_last}
+use Rattle.checks.specs.Addresses.{OwnedApart}
 use Rattle.register.specs.Picture.{Pictures, Reached, Tried}
 use Rattle.register.specs.Rows.{Stored}
 use Rattle.register.specs.declared.state.Register.{Register}
@@ -48,6 +49,10 @@ module _ {A R V W : Type 0} (addr : A → V → Type 0) (rests : R → W → Typ
   -- a tree that is reached is well made, and what stands in it is guarded
   pub reached_grown : (t : Tree A R) → Reached {V = V} {W = W} addr rests t → Grown addr rests t
   reached_grown t (a, r, es, law, is) = subst (Grown addr rests) (sym is) (grown_plain addr rests a r es law)
+
+  -- its blocks are owned, and apart
+  pub owned_apart : (t : Tree A R) → Grown addr rests t → OwnedApart addr t.blocks
+  owned_apart t grown = record { owned = λ k b e. (grown.owned k b e).0; apart = grown.apart }
 
   pub reached_guarded : (t : Tree A R) → Reached {V = V} {W = W} addr rests t → Guarded addr rests t
   reached_guarded t (a, r, es, law, is) = subst (Guarded addr rests) (sym is) (guarded_last addr rests (start a r) es law)

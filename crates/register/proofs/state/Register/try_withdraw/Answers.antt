@@ -5,7 +5,8 @@ use Rattle.model.specs.declared.answers.Refusal.TheVariants.{NoSuch}
 use Rattle.model.specs.declared.calls.Call.TheVariants.{Withdraw}
 use Rattle.register.specs.Rows.{with_properties}
 use Rattle.register.specs.Memory.{lent_by, tables_of}
-use Rattle.register.proofs.Standing.{properties_enough, withdraw_rows, withdraw_nothing, withdraw_right, withdraw_count, withdraw_pictures}
+use Rattle.register.proofs.Lent.{lent_enough}
+use Rattle.register.proofs.Standing.{withdraw_rows, withdraw_nothing, withdraw_right, withdraw_count, withdraw_pictures}
 use Rattle.register.proofs.Tries.{tried_exit, tried_exit_short}
 use Rattle.register.proofs.state.Register.try_withdraw.Goals as goal
 
@@ -44,7 +45,7 @@ returns-clause-does g c =
           blocks = pic.blocks;
           property_count = withdraw_count g.A.Kind g.R.Kind was s t pic (lent_by c.args.memory.now) long n there;
           properties = withdraw_pictures g.A.Kind g.R.Kind was s t pic (lent_by c.args.memory.now) long n there c.remove_row.new.rows
-              (let enough = properties_enough (lent_by c.args.memory.now) long in let few = was.properties in omega arith) written;
+              (let enough = lent_enough (lent_by c.args.memory.now) long in let few = was.properties in omega arith) written;
         },
       );
       register = tt;
