@@ -1,4 +1,5 @@
-// What a register holds of its own. Rules, blocks and properties lie in lent tables.
+// What a register holds of its own. Rules, blocks and properties lie in lent tables, which is fixed
+// memory of its user's, so here it only counts what is in use of them.
 ghost use Rattle.std.specs.Prelude.{◌≤◌};
 ghost use Rattle.model.specs.Limits.{max_blocks, max_properties};
 
