@@ -35,10 +35,8 @@ impl<A: Kind, R: Kind> Network<'_, A, R> {
     {
         let from = domain_of::<A, R>(blocks, header.source) as usize;
         let to = domain_of::<A, R>(blocks, header.destination) as usize;
-        match self.tree.route(from, to) {
-            Some(route) => self.stop_on(route.hops(), header),
-            None => None,
-        }
+        let route = self.tree.route(from, to)?;
+        self.stop_on(route.hops(), header)
     }
 
     // The first stop of a packet in these hops.

@@ -1,4 +1,5 @@
-// Which domain has which addresses.
+// Which domain has which addresses. An edit is written, judged, and undone where it is refused, so that
+// refusal is not passed up by `?`.
 ghost use Rattle.std.specs.Prelude.{◌≡◌, ◌<◌, ◌≤◌, ◌⊎◌, List, map, length, take};
 ghost use Rattle.model.specs.Shape.{Domain};
 ghost use Rattle.model.specs.Tree.{Tree, Block};

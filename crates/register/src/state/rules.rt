@@ -1,4 +1,5 @@
-// Edits of one firewall's list of rules.
+// Edits of one firewall's list of rules. Each is written, judged, and undone where it is refused, so that
+// refusal is not passed up by `?`.
 ghost use Rattle.std.specs.Prelude.{◌≡◌, ℕ, suc, ◌+◌, ◌-◌, ◌<◌, ◌≤◌, ◌⊎◌, List, map, length, sum};
 ghost use Rattle.model.specs.Limits.{max_list, max_properties, max_rules};
 ghost use Rattle.model.specs.Shape.{Firewall};
