@@ -132,57 +132,53 @@ pub fn time_host() -> PrefixRow
     host(ip(10, 0, 2, 12))
 }
 
-// The rule that does this with these packets.
-fn rule(action: Action, packets: PacketsRow) -> Entry<PacketsRow>
-    ensures { (result.row ≡ packets) × (result.outcome ≡ number_of action) }
+// The rule that does this with the packets on these interfaces, from and to these networks, of this
+// service.
+fn rule(
+    action: Action,
+    on: u32,
+    from: PrefixRow,
+    to: PrefixRow,
+    service: Service,
+) -> Entry<PacketsRow>
+    ensures { (result.row ≡ record { left = record { mask = on }; right = record { left = from; right = record { left = to; right = service } } }) × (result.outcome ≡ number_of action) }
 {
     Entry {
-        row: packets,
+        row: packets(on, from, to, service),
         outcome: action.into(),
     }
-}
-
-fn accept(on: u32, from: PrefixRow, to: PrefixRow, service: Service) -> Entry<PacketsRow>
-    ensures { (result.row ≡ record { left = record { mask = on }; right = record { left = from; right = record { left = to; right = service } } }) × (result.outcome ≡ number_of Action.Accept) }
-{
-    rule(Action::Accept, packets(on, from, to, service))
-}
-
-fn discard(on: u32, from: PrefixRow, to: PrefixRow, service: Service) -> Entry<PacketsRow>
-    ensures { (result.row ≡ record { left = record { mask = on }; right = record { left = from; right = record { left = to; right = service } } }) × (result.outcome ≡ number_of Action.Discard) }
-{
-    rule(Action::Discard, packets(on, from, to, service))
 }
 
 pub const RULES: usize = 14;
 
 // The rules, from the first to the last. The first that holds a packet decides it.
 pub(crate) fn office_rules() -> [Entry<PacketsRow>; RULES] {
+    use Action::{Accept, Discard};
     let blocked = net(ip(203, 0, 113, 0), 24);
     let infected = host(ip(10, 0, 1, 77));
     [
         // 1, 2: Mail and time are for everyone.
-        accept(STREET, anywhere(), mail_host(), tcp(SMTP)),
-        accept(STREET, anywhere(), time_host(), udp_both(NTP)),
+        rule(Accept, STREET, anywhere(), mail_host(), tcp(SMTP)),
+        rule(Accept, STREET, anywhere(), time_host(), udp_both(NTP)),
         // 3, 4: The street has no addresses of the house, and some of its networks are blocked.
-        discard(STREET, house(), anywhere(), all_services()),
-        discard(STREET, blocked, anywhere(), all_services()),
+        rule(Discard, STREET, house(), anywhere(), all_services()),
+        rule(Discard, STREET, blocked, anywhere(), all_services()),
         // 5, 6: The web host is for all others.
-        accept(STREET, anywhere(), web_host(), tcp(HTTP)),
-        accept(STREET, anywhere(), web_host(), tcp(HTTPS)),
+        rule(Accept, STREET, anywhere(), web_host(), tcp(HTTP)),
+        rule(Accept, STREET, anywhere(), web_host(), tcp(HTTPS)),
         // 7, 8: The office reaches the servers, but for one host.
-        discard(OFFICE, infected, anywhere(), all_services()),
-        accept(OFFICE, office_net(), server_net(), all_services()),
+        rule(Discard, OFFICE, infected, anywhere(), all_services()),
+        rule(Accept, OFFICE, office_net(), server_net(), all_services()),
         // 9, 10: Guests see the web, and nothing of the house.
-        discard(GUESTS, anywhere(), house(), all_services()),
-        accept(GUESTS, guest_net(), anywhere(), tcp(HTTPS)),
+        rule(Discard, GUESTS, anywhere(), house(), all_services()),
+        rule(Accept, GUESTS, guest_net(), anywhere(), tcp(HTTPS)),
         // 11: The office reaches the street; what goes to the servers is decided above.
-        accept(OFFICE, office_net(), anywhere(), all_services()),
+        rule(Accept, OFFICE, office_net(), anywhere(), all_services()),
         // 12: No telnet to the servers, from wherever it is not decided above.
-        discard(EVERYWHERE, anywhere(), server_net(), tcp(TELNET)),
+        rule(Discard, EVERYWHERE, anywhere(), server_net(), tcp(TELNET)),
         // 13: The mail host sends mail.
-        accept(SERVERS, mail_host(), anywhere(), tcp(SMTP)),
+        rule(Accept, SERVERS, mail_host(), anywhere(), tcp(SMTP)),
         // 14: The rest is discarded.
-        discard(EVERYWHERE, anywhere(), anywhere(), all_services()),
+        rule(Discard, EVERYWHERE, anywhere(), anywhere(), all_services()),
     ]
 }
