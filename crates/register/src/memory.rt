@@ -12,7 +12,8 @@ use model::{
 use search::Frame;
 
 // Three tables, which are the same at every call, and frames to work in. `X` and `Y` are the rows of
-// addresses and of rests.
+// addresses and of rests. A function that lends two of the slices to one call names them first, as
+// `let rules = &mut *memory.rules;`: lent from the struct in the call itself they get no proof.
 #[derive(Drop)]
 pub struct Memory<'a, X, Y> {
     pub rules: &'a mut [RuleRow<X, Y>],
