@@ -1,15 +1,8 @@
-use Rattle.std.proofs.Common.{◌≡◌, length, refl, ap, ◌∙◌, arith, rules}
-use Rattle.std.proofs.lemmas.List.{length-map}
+use Rattle.std.proofs.Common.{◌≡◌, refl, ap, ◌∙◌, rules}
 use Rattle.kinds.specs.Masks.{low_bit}
 use Rattle.model.specs.Packets.{decision_number}
 use Rattle.checks.proofs.Broken.{called_found, packet_in}
 use Rattle.checks.proofs.packets.find_break.Goals as goal
-
-pub returns-then-frames-rules : goal.returns-then-frames-rules
-returns-then-frames-rules g c rs is = omega (arith, ap length is ∙ length-map rs _)
-
-pub returns-else-frames-rules : goal.returns-else-frames-rules
-returns-else-frames-rules g c rs is = (omega (arith, ap length is ∙ length-map rs _), λ k b. omega (arith, c.in_default.ensures))
 
 pub returns : goal.returns
 returns g c rs is =

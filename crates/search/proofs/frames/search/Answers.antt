@@ -1,4 +1,4 @@
-use Rattle.std.proofs.Common.{◌≡◌, ℕ, ◌+◌, ◌-◌, ◌<◌, List, length, set, Some, sym, refl, ap, ◌∙◌, subst, arith, length-set, rules}
+use Rattle.std.proofs.Common.{◌≡◌, ℕ, ◌+◌, ◌-◌, ◌<◌, List, length, set, Some, sym, refl, ap, ◌∙◌, subst, arith, length-set}
 use Rattle.search.specs.declared.frames.Frame.{Frame}
 use Rattle.search.proofs.Positions.{last_read}
 use Rattle.search.proofs.Stack.{held_start, held_drop, held_cut, top_ok, top_inside, top_clear, room_top, start_is, within_listed, Within, start, listing}
@@ -65,12 +65,6 @@ bounds-frames-count-in-Cut-2 g c =
     let cut = c.in-Cut.ensures in
     let room = room_top _ _ _ _ (omega arith) (last_read _ _ _ c.loop-count-test.true c.loop-count.invariant.few c.index-frames-count.is) c.loop-count.invariant _ cut.low cut.high in
     rw length-set room
-
-pub overflow_add-count : goal.overflow_add-count
-overflow_add-count g c =
-    let cut = c.in-Cut.ensures in
-    let room = room_top _ _ _ _ (omega arith) (last_read _ _ _ c.loop-count-test.true c.loop-count.invariant.few c.index-frames-count.is) c.loop-count.invariant _ cut.low cut.high in
-    search rules
 
 pub loop-count-smaller : goal.loop-count-smaller
 loop-count-smaller g c =

@@ -2,7 +2,7 @@ use Rattle.std.proofs.Common.{arith}
 use Rattle.search.specs.List.{row_holds}
 use Rattle.search.specs.Walk.{Clear}
 use Rattle.search.proofs.Positions.{before_more, nth_within}
-use Rattle.search.proofs.Skipped.{skipped_turn, skipped_end, before_next}
+use Rattle.search.proofs.Skipped.{skipped_turn, skipped_end}
 use Rattle.search.proofs.Walks.{clear_inside, all_first, all_unmatched, settled_steps}
 use Rattle.search.proofs.walk.follow.Goals as goal
 
@@ -28,10 +28,6 @@ returns-in-Cut g c =
       clear = clear;
       past = before_more _ _ _ _ here (clear_inside _ _ _ _ _ cut.0.second clear) (λ s. cut.1 s.0 s.1 s.2);
     }
-
-pub loop-position-preserved : goal.loop-position-preserved
-loop-position-preserved g c =
-    before_next _ _ _ _ _ _ _ (skipped_turn _ _ _ _ _ _ c.into_iter-position-iterator.ensures.into_iter_gives c.skip-position-items.ensures.source c.skip-position-items.ensures.count c.enumerate.ensures.source c.enumerate.ensures.count c.iter.ensures.rest c.loop-position.yielded _ c.loop-position.yielded_by _ _ _ _ c.in-Some.is c.next.ensures.steps) c.loop-position.invariant (λ s. c.in-Apart.ensures s.0 s.1 s.2)
 
 pub returns : goal.returns
 returns g c = settled_steps _ _ _ _ _ _ _ _ (all_unmatched _ _ _ _ (skipped_end _ _ _ _ _ _ c.into_iter-position-iterator.ensures.into_iter_gives c.skip-position-items.ensures.source c.skip-position-items.ensures.count c.enumerate.ensures.source c.enumerate.ensures.count c.iter.ensures.rest c.loop-position.yielded _ c.loop-position.yielded_by _ _ c.in-None.is c.next.ensures.steps) c.loop-position.invariant) c.settled-2.ensures

@@ -1,22 +1,14 @@
-use Rattle.std.proofs.Common.{arith}
 use Rattle.std.proofs.lemmas.Bool.{not-true}
 use Rattle.std.proofs.lemmas.Bool.Decides.{not_from_Decides}
 use Rattle.search.proofs.Skipped.{skipped_turn, skipped_end, before_next}
 use Rattle.search.proofs.Walks.{hopeless_inside, hopeless_end, meets_place}
 use Rattle.search.proofs.walk.is_hopeless.Goals as goal
 
-pub loop-position-init : goal.loop-position-init
-loop-position-init g c k y lt at wanted = c.requires k y (omega arith) at wanted.0
-
 pub returns-in-Inside : goal.returns-in-Inside
 returns-in-Inside g c e =
     let (place, here) = skipped_turn _ _ _ _ _ _ c.into_iter-position-iterator.ensures.into_iter_gives c.skip-position-items.ensures.source c.skip-position-items.ensures.count c.enumerate.ensures.source c.enumerate.ensures.count c.iter.ensures.rest c.loop-position.yielded _ c.loop-position.yielded_by _ _ _ _ c.in-Some.is c.next.ensures.steps in
     hopeless_inside _ _ _ _ _ _ (rw place c.loop-position.invariant) here c.in-Inside.ensures
     (λ met. not_from_Decides _ c.met_by-wished.ensures (not-true _ e) (meets_place _ 0 _ _ met))
-
-pub loop-position-preserved-in-Apart : goal.loop-position-preserved-in-Apart
-loop-position-preserved-in-Apart g c =
-    before_next _ _ _ _ _ _ _ (skipped_turn _ _ _ _ _ _ c.into_iter-position-iterator.ensures.into_iter_gives c.skip-position-items.ensures.source c.skip-position-items.ensures.count c.enumerate.ensures.source c.enumerate.ensures.count c.iter.ensures.rest c.loop-position.yielded _ c.loop-position.yielded_by _ _ _ _ c.in-Some.is c.next.ensures.steps) c.loop-position.invariant (λ want. c.in-Apart.ensures want.0.0 want.0.1 want.0.2)
 
 pub loop-position-preserved : goal.loop-position-preserved
 loop-position-preserved g c =

@@ -1,16 +1,10 @@
-use Rattle.std.proofs.Common.{length, Ok, sym, ◌∙◌, subst, arith}
-use Rattle.std.proofs.lemmas.Result.{err_from_is_err_and}
+use Rattle.std.proofs.Common.{length, Ok, sym, ◌∙◌, subst}
 use Rattle.search.proofs.Positions.{nth_get_or}
 use Rattle.model.specs.Refusals.{SomeAstray}
 use Rattle.checks.proofs.PropertyRows.{past_nothing, past_property, first_property, no_property}
 use Rattle.verdicts.specs.Misplaced.{AstrayIn}
 use Rattle.verdicts.proofs.misplaced.first_misplaced.Goals as goal
 use Rattle.verdicts.proofs.misplaced.first_misplaced.Goals.{in-Some+in_ok-address+in_default-2, in_default}
-
-pub returns-in_err-address : goal.returns-in_err-address
-returns-in_err-address g c t blocks are =
-    let p = err_from_is_err_and c.from_residual.result c.from_residual.ensures.1 in
-    rw p.1 (omega (arith, c.in_err-address.ensures t blocks))
 
 pub returns-in-Some-2 : goal.returns-in-Some-2
 returns-in-Some-2 g c t blocks are =

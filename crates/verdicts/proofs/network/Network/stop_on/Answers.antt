@@ -1,12 +1,8 @@
 use Rattle.std.proofs.lemmas.Option.{slice_get-get_or}
 use Rattle.search.proofs.Positions.{before_all}
 use Rattle.model.specs.Record.{Stops}
-use Rattle.verdicts.proofs.Sending.{stops_here, past_stop}
+use Rattle.verdicts.proofs.Sending.{past_stop}
 use Rattle.verdicts.proofs.network.Network.stop_on.Goals as goal
-
-pub returns-in-Some : goal.returns-in-Some
-returns-in-Some g c t drawn =
-    stops_here g.A.Kind.holds g.R.Kind.holds t c.args.header c.args.hops.now c.loop-hop.hop-index _ (slice_get-get_or _ _ _ c.loop-hop-test.true) (c.loop-hop.invariant t drawn) c.in-Some.position (c.in-Some.ensures t drawn)
 
 pub loop-hop-preserved : goal.loop-hop-preserved
 loop-hop-preserved g c t drawn =
