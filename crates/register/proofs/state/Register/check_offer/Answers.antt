@@ -1,13 +1,8 @@
 use Rattle.std.proofs.Common.{length, ◌∙◌, subst}
 use Rattle.tree.specs.Table.{shape_of}
 use Rattle.register.specs.Offers.{DestinationChecked}
-use Rattle.register.proofs.Offering.{outside_exit, unjoined_exit, source_exit, last_check}
+use Rattle.register.proofs.Offering.{unjoined_exit, source_exit, last_check}
 use Rattle.register.proofs.state.Register.check_offer.Goals as goal
-
-pub returns-in_err-check_regions_inside : goal.returns-in_err-check_regions_inside
-returns-in_err-check_regions_inside g c t whole rest shape blocks =
-    let was = c.args.self.now in
-    outside_exit g.A.Kind.holds g.R.Kind.holds t c.args.property (length c.args.frames.now) was.addresses was.rests whole rest (shape_of was.tree) shape _ c.from_residual.result c.from_residual.ensures.1 c.in_err-check_regions_inside.ensures
 
 pub returns-in_err-check_joined : goal.returns-in_err-check_joined
 returns-in_err-check_joined g c t whole rest shape blocks =

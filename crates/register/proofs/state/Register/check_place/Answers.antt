@@ -1,26 +1,11 @@
-use Rattle.std.proofs.Common.{◌+◌, ◌≤◌, ◌⊎◌, subst, arith}
+use Rattle.std.proofs.Common.{◌+◌, ◌≤◌, ◌⊎◌, subst}
 use Rattle.std.proofs.lemmas.Result.{err_from_is_err_and}
 use Rattle.model.specs.Shape.{Firewall}
 use Rattle.tree.specs.Table.{shape_of}
-use Rattle.lists.proofs.Bounds.{length_max}
 use Rattle.register.specs.Edits.{There, Room, list_length}
 use Rattle.register.specs.Memory.{lent_by}
-use Rattle.register.proofs.Edits.{place_missing, place_crowded, place_opened}
+use Rattle.register.proofs.Edits.{place_crowded, place_opened}
 use Rattle.register.proofs.state.Register.check_place.Goals as goal
-
-pub overflow_add-length : goal.overflow_add-length
-overflow_add-length g c = omega (arith, c.length.ensures, length_max c.args.self.now.lists c.args.firewall)
-
-pub returns-in_err-check_there : goal.returns-in_err-check_there
-returns-in_err-check_there g c =
-    let p = err_from_is_err_and c.from_residual-in_err-check_there.result c.from_residual-in_err-check_there.ensures.1 in
-    let was = c.args.self.now in
-    let f = c.args.firewall in
-    let (is, why) = c.in_err-check_there.ensures in
-    rw (p.1, p.2)
-    (place_missing g.A.Kind g.R.Kind was (lent_by c.args.memory.now) c.in_ok-check_lengths.ensures f c.args.position c.args.rule
-    (There was (lent_by c.args.memory.now) f (list_length was f + 1) c.args.position × Room was f) _ is
-    (subst (λ n. (Firewall (shape_of was.tree) f → ⊥) ⊎ (n + 1 ≤ c.args.position)) c.length.ensures why))
 
 pub returns-in_err-check_list_room : goal.returns-in_err-check_list_room
 returns-in_err-check_list_room g c =

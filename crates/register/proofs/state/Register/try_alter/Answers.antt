@@ -4,7 +4,7 @@ use Rattle.std.proofs.lemmas.Result.{err_from_is_err_and}
 use Rattle.model.specs.declared.calls.Call.TheVariants.{Alter}
 use Rattle.register.specs.Edits.{There, list_length}
 use Rattle.register.specs.Memory.{lent_by, tables_of}
-use Rattle.register.proofs.Edits.{rows_within, row_there, opened_tried, alter_done, alter_undone}
+use Rattle.register.proofs.Edits.{row_there, opened_tried, alter_done, alter_undone}
 use Rattle.register.proofs.Tries.{chosen, row_answered}
 use Rattle.register.proofs.state.Register.try_alter.Goals as goal
 
@@ -16,13 +16,6 @@ returns-in_err-check_alter-clause-does g c =
     rw (e.1, e.2)
     (opened_tried g.A.Kind g.R.Kind was (lent_by c.args.memory.now) (Alter f c.args.position c.args.rule) 10
     (There was (lent_by c.args.memory.now) f (list_length was f) c.args.position) _ c.in_err-check_alter.ensures (tables_of c.args.memory.now))
-
-pub overflow_add-at : goal.overflow_add-at
-overflow_add-at g c =
-    let there = c.in_ok-check_alter.ensures.fits in
-    let fits = rows_within c.args.self.now (lent_by c.args.memory.now) there.long c.args.firewall in
-    let at = there.position in
-    omega (arith, c.start-start.ensures)
 
 pub unwrap-old-requires : goal.unwrap-old-requires
 unwrap-old-requires g c = c.replace_row.ensures.there.1 (row_there c.args.self.now (lent_by c.args.memory.now) c.args.firewall c.args.position c.in_ok-check_alter.ensures.fits _ _ c.total-used.ensures c.start-start.ensures)

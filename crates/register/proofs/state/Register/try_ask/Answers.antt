@@ -1,10 +1,10 @@
 use Rattle.std.proofs.Common.{length, refl, inl, inr}
-use Rattle.model.specs.declared.answers.Refusal.TheVariants.{TooShort, NoSuch}
+use Rattle.model.specs.declared.answers.Refusal.TheVariants.{TooShort}
 use Rattle.model.specs.declared.calls.Call.TheVariants.{Ask}
 use Rattle.register.specs.Picture.{asked_as}
 use Rattle.register.specs.Memory.{lent_by, tables_of}
-use Rattle.register.proofs.Asking.{blocks_are, frames_enough, break_frames, ask_nowhere, ask_misfits, ask_turns}
-use Rattle.register.proofs.Tries.{tried_exit, tried_exit_short, tried_exit_right, reached_grown}
+use Rattle.register.proofs.Asking.{blocks_are, frames_enough, break_frames, ask_misfits, ask_turns}
+use Rattle.register.proofs.Tries.{tried_exit_short, tried_exit_right, reached_grown}
 use Rattle.register.proofs.state.Register.try_ask.Goals as goal
 
 pub returns-in_err-check_lengths-clause-does : goal.returns-in_err-check_lengths-clause-does
@@ -12,15 +12,6 @@ returns-in_err-check_lengths-clause-does g c =
     let cause = c.in_err-check_lengths.ensures in
     tried_exit_short g.A.Kind g.R.Kind (Ask c.args.property) (lent_by c.args.memory.now) asked_as
     c.args.self.now (tables_of c.args.memory.now) _ cause.0 c.from_residual.result c.from_residual.ensures.1 cause.1
-
-pub returns-in_err-check_between-clause-does : goal.returns-in_err-check_between-clause-does
-returns-in_err-check_between-clause-does g c =
-    let cause = c.in_err-check_between.ensures in
-    let long = c.in_ok-check_lengths.ensures in
-    let s = tables_of c.args.memory.now in
-    tried_exit g.A.Kind g.R.Kind (Ask c.args.property) (lent_by c.args.memory.now) asked_as
-    c.args.self.now s _ NoSuch cause.0 c.from_residual-in_err-check_between.result c.from_residual-in_err-check_between.ensures.1 long
-    (λ t reached pic. ask_nowhere g.A.Kind g.R.Kind c.args.self.now s t pic c.args.property (lent_by c.args.memory.now) long cause.1)
 
 pub returns-in_err-check_offer-clause-does : goal.returns-in_err-check_offer-clause-does
 returns-in_err-check_offer-clause-does g c =

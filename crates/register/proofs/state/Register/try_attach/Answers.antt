@@ -3,12 +3,12 @@ use Rattle.std.specs.Result.{is_ok}
 use Rattle.std.proofs.Common.{refl, ap, ◌∙◌, inl, inr}
 use Rattle.model.specs.Limits.{max_rules}
 use Rattle.model.specs.Shape.{attached}
-use Rattle.model.specs.declared.answers.Refusal.TheVariants.{NoSuch, BadInterface, Full}
+use Rattle.model.specs.declared.answers.Refusal.TheVariants.{Full}
 use Rattle.model.specs.declared.calls.Call.TheVariants.{Attach}
 use Rattle.register.specs.Picture.{attached_as}
 use Rattle.register.specs.Rows.{rule_count, with_rules}
 use Rattle.register.specs.Memory.{lent_by, tables_of}
-use Rattle.register.proofs.Attaching.{attach_nowhere, attach_badly, attach_full, attach_right, attach_sure, attach_lists, attach_room, attach_rows, domain_there, interfaces_apart, room_for_one}
+use Rattle.register.proofs.Attaching.{attach_full, attach_right, attach_sure, attach_lists, attach_room, attach_rows, domain_there, interfaces_apart, room_for_one}
 use Rattle.register.proofs.Tries.{chosen, tried_exit, tried_exit_short, reached_grown}
 use Rattle.register.proofs.state.Register.try_attach.Goals as goal
 
@@ -17,25 +17,6 @@ returns-in_err-check_lengths-clause-does g c =
     let cause = c.in_err-check_lengths.ensures in
     tried_exit_short g.A.Kind g.R.Kind (Attach c.args.domain c.args.upper c.args.lower c.args.decision) (lent_by c.args.memory.now) attached_as
     c.args.self.now (tables_of c.args.memory.now) _ cause.0 c.from_residual.result c.from_residual.ensures.1 cause.1
-
-pub returns-in_err-check_domain-clause-does : goal.returns-in_err-check_domain-clause-does
-returns-in_err-check_domain-clause-does g c =
-    let cause = c.in_err-check_domain.ensures in
-    let long = c.in_ok-check_lengths.ensures in
-    let s = tables_of c.args.memory.now in
-    tried_exit g.A.Kind g.R.Kind (Attach c.args.domain c.args.upper c.args.lower c.args.decision) (lent_by c.args.memory.now) attached_as
-    c.args.self.now s _ NoSuch cause.0 c.from_residual-in_err-check_domain.result c.from_residual-in_err-check_domain.ensures.1 long
-    (λ t reached pic. attach_nowhere g.A.Kind g.R.Kind c.args.self.now s t pic c.args.domain c.args.upper c.args.lower c.args.decision (lent_by c.args.memory.now) long cause.1)
-
-pub returns-in_err-check_interfaces-clause-does : goal.returns-in_err-check_interfaces-clause-does
-returns-in_err-check_interfaces-clause-does g c =
-    let cause = c.in_err-check_interfaces.ensures in
-    let long = c.in_ok-check_lengths.ensures in
-    let there = c.in_ok-check_domain.ensures in
-    let s = tables_of c.args.memory.now in
-    tried_exit g.A.Kind g.R.Kind (Attach c.args.domain c.args.upper c.args.lower c.args.decision) (lent_by c.args.memory.now) attached_as
-    c.args.self.now s _ BadInterface cause.0 c.from_residual-in_err-check_interfaces.result c.from_residual-in_err-check_interfaces.ensures.1 long
-    (λ t reached pic. attach_badly g.A.Kind g.R.Kind c.args.self.now s t pic c.args.domain c.args.upper c.args.lower c.args.decision (lent_by c.args.memory.now) long there cause.1)
 
 pub returns-in_err-check_attach_room-clause-does : goal.returns-in_err-check_attach_room-clause-does
 returns-in_err-check_attach_room-clause-does g c =

@@ -50,12 +50,6 @@ unwrap-old-requires g c =
     c.replace_row.ensures.there.1 (omega arith, omega arith)
 
 -- there are more frames than blocks
-pub check_placed-requires : goal.check_placed-requires
-check_placed-requires g c =
-    let long = lent_enough (lent_by c.args.memory.now) c.in_ok-check_lengths.ensures in
-    let room = c.in_ok-check_room.ensures in
-    omega arith
-
 pub returns-in-Ok-clause-does : goal.returns-in-Ok-clause-does
 returns-in-Ok-clause-does g c =
     let s = tables_of c.args.memory.now in

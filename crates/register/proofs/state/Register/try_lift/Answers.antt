@@ -6,7 +6,7 @@ use Rattle.model.specs.declared.calls.Call.TheVariants.{Lift}
 use Rattle.tables.specs.Rows.{row_in, row_out}
 use Rattle.register.specs.Edits.{There, list_length}
 use Rattle.register.specs.Memory.{lent_by, tables_of}
-use Rattle.register.proofs.Edits.{rows_within, row_there, opened_tried, lift_done, lift_undone}
+use Rattle.register.proofs.Edits.{row_there, opened_tried, lift_done, lift_undone}
 use Rattle.register.proofs.Tries.{chosen, row_answered}
 use Rattle.register.proofs.state.Register.try_lift.Goals as goal
 
@@ -18,19 +18,6 @@ returns-in_err-check_lift-clause-does g c =
     rw (e.1, e.2)
     (opened_tried g.A.Kind g.R.Kind was (lent_by c.args.memory.now) (Lift f c.args.position) 10
     (There was (lent_by c.args.memory.now) f (list_length was f) c.args.position) _ c.in_err-check_lift.ensures (tables_of c.args.memory.now))
-
-pub overflow_sub-size : goal.overflow_sub-size
-overflow_sub-size g c =
-    let there = c.in_ok-check_lift.ensures.fits in
-    let at = there.position in
-    omega (arith, c.length-size.ensures)
-
-pub overflow_add-at : goal.overflow_add-at
-overflow_add-at g c =
-    let there = c.in_ok-check_lift.ensures.fits in
-    let fits = rows_within c.args.self.now (lent_by c.args.memory.now) there.long c.args.firewall in
-    let at = there.position in
-    omega (arith, c.start-start.ensures)
 
 pub unwrap-row-requires : goal.unwrap-row-requires
 unwrap-row-requires g c = c.remove_row.ensures.there.1 (row_there c.args.self.now (lent_by c.args.memory.now) c.args.firewall c.args.position c.in_ok-check_lift.ensures.fits _ _ c.total-used.ensures c.start-start.ensures)

@@ -6,7 +6,7 @@ use Rattle.model.specs.declared.calls.Call.TheVariants.{Place}
 use Rattle.tables.specs.Rows.{row_in, row_out}
 use Rattle.register.specs.Edits.{There, Room, list_length}
 use Rattle.register.specs.Memory.{lent_by, tables_of}
-use Rattle.register.proofs.Edits.{rows_within, place_there, opened_tried, place_done, place_undone}
+use Rattle.register.proofs.Edits.{place_there, opened_tried, place_done, place_undone}
 use Rattle.register.proofs.Tries.{chosen, row_answered}
 use Rattle.register.proofs.state.Register.try_place.Goals as goal
 
@@ -18,13 +18,6 @@ returns-in_err-check_place-clause-does g c =
     rw (e.1, e.2)
     (opened_tried g.A.Kind g.R.Kind was (lent_by c.args.memory.now) (Place f c.args.position c.args.rule) 12
     (There was (lent_by c.args.memory.now) f (list_length was f + 1) c.args.position × Room was f) _ c.in_err-check_place.ensures (tables_of c.args.memory.now))
-
-pub overflow_add-at : goal.overflow_add-at
-overflow_add-at g c =
-    let (there, room) = c.in_ok-check_place.ensures.fits in
-    let fits = rows_within c.args.self.now (lent_by c.args.memory.now) there.long c.args.firewall in
-    let at = there.position in
-    omega (arith, c.start-start.ensures)
 
 pub unwrap-behind-requires : goal.unwrap-behind-requires
 unwrap-behind-requires g c = c.insert_row.ensures.room.1 (place_there c.args.self.now (lent_by c.args.memory.now) c.args.firewall c.args.position c.in_ok-check_place.ensures.fits _ _ c.total-used.ensures c.start-start.ensures)

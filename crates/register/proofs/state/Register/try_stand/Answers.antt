@@ -1,14 +1,13 @@
 use Rattle.std.specs.Option.{is_some}
 use Rattle.std.proofs.Common.{refl, ap, inl, inr}
 use Rattle.model.specs.declared.answers.Answer.TheVariants.{Done}
-use Rattle.model.specs.declared.answers.Refusal.TheVariants.{NoSuch, Full}
 use Rattle.model.specs.declared.calls.Call.TheVariants.{Stand}
 use Rattle.checks.specs.Rows.{property_row}
 use Rattle.register.specs.Rows.{with_properties}
 use Rattle.register.specs.Memory.{lent_by, tables_of}
 use Rattle.register.proofs.Asking.{blocks_are, frames_enough, break_frames}
-use Rattle.register.proofs.Standing.{stand_nowhere, stand_full, stand_misfits, stand_breaks, stand_right, stand_rows, stand_pictures, stand_count}
-use Rattle.register.proofs.Tries.{tried_exit, tried_exit_short, tried_exit_right, reached_grown}
+use Rattle.register.proofs.Standing.{stand_misfits, stand_breaks, stand_right, stand_rows, stand_pictures, stand_count}
+use Rattle.register.proofs.Tries.{tried_exit_short, tried_exit_right, reached_grown}
 use Rattle.register.proofs.state.Register.try_stand.Goals as goal
 
 pub returns-in_err-check_lengths-clause-does : goal.returns-in_err-check_lengths-clause-does
@@ -16,25 +15,6 @@ returns-in_err-check_lengths-clause-does g c =
     let cause = c.in_err-check_lengths.ensures in
     tried_exit_short g.A.Kind g.R.Kind (Stand c.args.property) (lent_by c.args.memory.now) (λ _. Done)
     c.args.self.now (tables_of c.args.memory.now) _ cause.0 c.from_residual.result c.from_residual.ensures.1 cause.1
-
-pub returns-in_err-check_between-clause-does : goal.returns-in_err-check_between-clause-does
-returns-in_err-check_between-clause-does g c =
-    let cause = c.in_err-check_between.ensures in
-    let long = c.in_ok-check_lengths.ensures in
-    let s = tables_of c.args.memory.now in
-    tried_exit g.A.Kind g.R.Kind (Stand c.args.property) (lent_by c.args.memory.now) (λ _. Done)
-    c.args.self.now s _ NoSuch cause.0 c.from_residual-in_err-check_between.result c.from_residual-in_err-check_between.ensures.1 long
-    (λ t reached pic. stand_nowhere g.A.Kind g.R.Kind c.args.self.now s t pic c.args.property (lent_by c.args.memory.now) long cause.1)
-
-pub returns-in_err-check_room-clause-does : goal.returns-in_err-check_room-clause-does
-returns-in_err-check_room-clause-does g c =
-    let cause = c.in_err-check_room.ensures in
-    let long = c.in_ok-check_lengths.ensures in
-    let between = c.in_ok-check_between.ensures in
-    let s = tables_of c.args.memory.now in
-    tried_exit g.A.Kind g.R.Kind (Stand c.args.property) (lent_by c.args.memory.now) (λ _. Done)
-    c.args.self.now s _ Full cause.0 c.from_residual-in_err-check_room.result c.from_residual-in_err-check_room.ensures.1 long
-    (λ t reached pic. stand_full g.A.Kind g.R.Kind c.args.self.now s t pic c.args.property (lent_by c.args.memory.now) long between cause.1)
 
 pub returns-in_err-check_offer-clause-does : goal.returns-in_err-check_offer-clause-does
 returns-in_err-check_offer-clause-does g c =

@@ -1,35 +1,16 @@
 use Rattle.std.proofs.Common.{refl, arith}
 use Rattle.model.specs.declared.answers.Answer.TheVariants.{Done}
-use Rattle.model.specs.declared.answers.Refusal.TheVariants.{NoSuch}
 use Rattle.model.specs.declared.calls.Call.TheVariants.{Take}
 use Rattle.register.specs.Memory.{lent_by, tables_of}
-use Rattle.register.proofs.Blocks.{take_no_such, taken, take_undone}
+use Rattle.register.proofs.Blocks.{taken, take_undone}
 use Rattle.register.proofs.Lent.{lent_enough}
-use Rattle.register.proofs.Tries.{tried_exit, tried_exit_short, chosen, row_answered}
+use Rattle.register.proofs.Tries.{tried_exit_short, chosen, row_answered}
 use Rattle.register.proofs.state.Register.try_take.Goals as goal
 
 pub returns-in_err-check_lengths-clause-does : goal.returns-in_err-check_lengths-clause-does
 returns-in_err-check_lengths-clause-does g c =
     let cause = c.in_err-check_lengths.ensures in
     tried_exit_short g.A.Kind g.R.Kind (Take c.args.block) (lent_by c.args.memory.now) (λ _. Done) c.args.self.now (tables_of c.args.memory.now) _ cause.0 c.from_residual.result c.from_residual.ensures.1 cause.1
-
-pub returns-in_err-check_number-clause-does : goal.returns-in_err-check_number-clause-does
-returns-in_err-check_number-clause-does g c =
-    let s = tables_of c.args.memory.now in
-    let long = c.in_ok-check_lengths.ensures in
-    let cause = c.in_err-check_number.ensures in
-    tried_exit g.A.Kind g.R.Kind (Take c.args.block) (lent_by c.args.memory.now) (λ _. Done) c.args.self.now s _ NoSuch cause.0 c.from_residual-in_err-check_number.result c.from_residual-in_err-check_number.ensures.1 long
-    (λ t reached pic. take_no_such g.A.Kind g.R.Kind c.args.self.now s (lent_by c.args.memory.now) long c.args.block t pic cause.1)
-
-pub check_placed-requires : goal.check_placed-requires
-check_placed-requires g c =
-    let long = lent_enough (lent_by c.args.memory.now) c.in_ok-check_lengths.ensures in
-    let within = c.in_ok-check_number.ensures in
-    let few = c.args.self.now.blocks in
-    let fewer = c.args.self.now.properties in
-    let kept = c.remove_row.auto.rows in
-    let sizes = c.requires in
-    omega arith
 
 pub returns-in-Ok-clause-does : goal.returns-in-Ok-clause-does
 returns-in-Ok-clause-does g c =

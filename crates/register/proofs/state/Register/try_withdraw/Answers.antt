@@ -1,13 +1,12 @@
 use Rattle.std.specs.Option.{is_some}
 use Rattle.std.proofs.Common.{refl, ap, arith}
 use Rattle.model.specs.declared.answers.Answer.TheVariants.{Done}
-use Rattle.model.specs.declared.answers.Refusal.TheVariants.{NoSuch}
 use Rattle.model.specs.declared.calls.Call.TheVariants.{Withdraw}
 use Rattle.register.specs.Rows.{with_properties}
 use Rattle.register.specs.Memory.{lent_by, tables_of}
 use Rattle.register.proofs.Lent.{lent_enough}
-use Rattle.register.proofs.Standing.{withdraw_rows, withdraw_nothing, withdraw_right, withdraw_count, withdraw_pictures}
-use Rattle.register.proofs.Tries.{tried_exit, tried_exit_short}
+use Rattle.register.proofs.Standing.{withdraw_rows, withdraw_right, withdraw_count, withdraw_pictures}
+use Rattle.register.proofs.Tries.{tried_exit_short}
 use Rattle.register.proofs.state.Register.try_withdraw.Goals as goal
 
 pub returns-in_err-check_lengths-clause-does : goal.returns-in_err-check_lengths-clause-does
@@ -15,15 +14,6 @@ returns-in_err-check_lengths-clause-does g c =
     let cause = c.in_err-check_lengths.ensures in
     tried_exit_short g.A.Kind g.R.Kind (Withdraw c.args.property) (lent_by c.args.memory.now) (λ _. Done)
     c.args.self.now (tables_of c.args.memory.now) _ cause.0 c.from_residual.result c.from_residual.ensures.1 cause.1
-
-pub returns-in_err-check_number-clause-does : goal.returns-in_err-check_number-clause-does
-returns-in_err-check_number-clause-does g c =
-    let cause = c.in_err-check_number.ensures in
-    let long = c.in_ok-check_lengths.ensures in
-    let s = tables_of c.args.memory.now in
-    tried_exit g.A.Kind g.R.Kind (Withdraw c.args.property) (lent_by c.args.memory.now) (λ _. Done)
-    c.args.self.now s _ NoSuch cause.0 c.from_residual-in_err-check_number.result c.from_residual-in_err-check_number.ensures.1 long
-    (λ t reached pic. withdraw_nothing g.A.Kind g.R.Kind c.args.self.now s t pic (lent_by c.args.memory.now) long c.args.property cause.1)
 
 pub returns-clause-does : goal.returns-clause-does
 returns-clause-does g c =
