@@ -1,5 +1,6 @@
 -- How rules, blocks and properties lie in tables. `pa` and `pr` give the rows of addresses and of rests.
-use Rattle.std.specs.Prelude.{Some, None, Option}
+use Rattle.std.specs.Prelude.{◌≡◌, List, map, Some, None, Option}
+use Rattle.kinds.specs.declared.kind.Kind.{Ghosts}
 use Rattle.kinds.specs.declared.pair.Pair.{Pair}
 use Rattle.kinds.specs.declared.set.SetRow.{SetRow}
 use Rattle.search.specs.declared.list.Entry.{Entry}
@@ -34,3 +35,12 @@ property_with w (Some s) (Some d) (Some r) = Some (record { sort = w.sort; from 
 -- the property of a row. `ra` and `rr` read the rows of addresses and of rests.
 abbrev pub property_of : {A R X Y : Type 0} → (X → Option A) → (Y → Option R) → PropertyRow X Y → Option (Property A R)
 property_of ra rr w = property_with w (ra w.source) (ra w.destination) (rr w.rest)
+
+module _ {A R V W X Y : Type 0} (addresses : Ghosts A V X) (rests : Ghosts R W Y) where
+  -- the rows are those of the rules, in order
+  abbrev pub RulesAre : List (Entry (Pair SetRow (Pair X (Pair X Y)))) → List (Rule A R) → Type 0
+  RulesAre rows rs = rows ≡ map (rule_entry addresses.plain rests.plain) rs
+
+  -- the rows are those of the properties, in order
+  abbrev pub PropertiesAre : List (PropertyRow X Y) → List (Property A R) → Type 0
+  PropertiesAre rows ps = rows ≡ map (property_row addresses.plain rests.plain) ps

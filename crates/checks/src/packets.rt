@@ -1,6 +1,6 @@
 // What a list of rules does with the packets of a property.
 ghost use Rattle.std.specs.Prelude.{◌≡◌, ◌<◌, List, map, length};
-ghost use Rattle.checks.specs.Rows.{rule_entry};
+ghost use Rattle.checks.specs.Rows.{RulesAre};
 ghost use Rattle.checks.specs.Breaks.{BreakFound, UnmatchedFound, decided_against};
 ghost use Rattle.model.specs.Tree.{Tree};
 ghost use Rattle.model.specs.declared.rules.Rule.{Rule as RuleOf};
@@ -28,7 +28,7 @@ pub fn find_break<A: Kind, R: Kind>(
     entered: u8,
     frames: &mut [Frame<PacketRow<A::Row, R::Row>>],
 ) -> Result<Option<Packet<A::Value, R::Value>>, TooShort>
-    ensures { (rs : List (RuleOf A R)) → rules.now ≡ map (rule_entry A.Kind.plain R.Kind.plain) rs → BreakFound A.Kind.holds R.Kind.holds rs property entered (length frames.old) result }
+    ensures { (rs : List (RuleOf A R)) → RulesAre A.Kind R.Kind rules.now rs → BreakFound A.Kind.holds R.Kind.holds rs property entered (length frames.old) result }
 {
     let Some(interface) = Set::single(entered) else {
         return if frames.len() <= rules.len() {
@@ -55,7 +55,7 @@ pub fn find_unmatched<A: Kind, R: Kind>(
     rests: R,
     frames: &mut [Frame<PacketRow<A::Row, R::Row>>],
 ) -> Result<Option<Packet<A::Value, R::Value>>, TooShort>
-    ensures { (t : Tree A R) (rs : List (RuleOf A R)) → t.addresses ≡ addresses → t.rests ≡ rests → rules.now ≡ map (rule_entry A.Kind.plain R.Kind.plain) rs → UnmatchedFound A.Kind.holds R.Kind.holds t rs (length frames.old) result }
+    ensures { (t : Tree A R) (rs : List (RuleOf A R)) → t.addresses ≡ addresses → t.rests ≡ rests → RulesAre A.Kind R.Kind rules.now rs → UnmatchedFound A.Kind.holds R.Kind.holds t rs (length frames.old) result }
 {
     let whole = whole_packets(addresses, rests);
     let unmatched = search(rules, whole, Wish::Is(None), frames)?;

@@ -2,7 +2,7 @@
 ghost use Rattle.std.specs.Prelude.{◌≡◌};
 ghost use Rattle.checks.specs.Rows.{rule_entry, block_entry, property_row, property_of};
 
-use kinds::{Kind, Pair, SetRow};
+use kinds::{Kind, Pair, SetRow, packet_region};
 use model::{Decision, Property, Rule};
 use search::Entry;
 
@@ -32,17 +32,9 @@ pub struct PropertyRow<X, Y> {
 pub fn rule_row<A: Kind, R: Kind>(rule: Rule<A, R>) -> RuleRow<A::Row, R::Row>
     ensures { result ≡ rule_entry A.Kind.plain R.Kind.plain rule }
 {
+    let packets = packet_region(rule.interfaces, rule.source, rule.destination, rule.rest);
     Entry {
-        row: Pair {
-            left: rule.interfaces.row(),
-            right: Pair {
-                left: rule.source.row(),
-                right: Pair {
-                    left: rule.destination.row(),
-                    right: rule.rest.row(),
-                },
-            },
-        },
+        row: packets.row(),
         outcome: rule.decision.into(),
     }
 }

@@ -1,7 +1,7 @@
 // Standing properties that an edit of one firewall's list would break.
 ghost use Rattle.std.specs.Prelude.{◌≡◌, ℕ, ◌<◌, List, map, length, Some as Just, Decides};
 ghost use Rattle.std.specs.List.{slice_get};
-ghost use Rattle.checks.specs.Rows.{property_row, rule_entry};
+ghost use Rattle.checks.specs.Rows.{RulesAre, PropertiesAre};
 ghost use Rattle.model.specs.Properties.{Kept};
 ghost use Rattle.model.specs.Tree.{Tree};
 ghost use Rattle.model.specs.declared.rules.Property.{Property as PropertyOf};
@@ -32,7 +32,7 @@ pub fn first_broken<A: Kind, R: Kind>(
     list: &[RuleRow<A::Row, R::Row>],
     frames: &mut [Frame<PacketRow<A::Row, R::Row>>],
 ) -> Result<Option<Broken<A::Value, R::Value>>, TooShort>
-    ensures { (t : Tree A R) (rs : List (RuleOf A R)) → shape_of tree.now ≡ t.shape → firewall < length t.lists → list.now ≡ map (rule_entry A.Kind.plain R.Kind.plain) rs → properties.now ≡ map (property_row A.Kind.plain R.Kind.plain) t.properties → ((n : ℕ) (p : PropertyOf A R) → slice_get t.properties n ≡ Just p → Kept A.Kind.holds R.Kind.holds t p) → EditFound A.Kind.holds R.Kind.holds t firewall rs (length frames.old) result }
+    ensures { (t : Tree A R) (rs : List (RuleOf A R)) → shape_of tree.now ≡ t.shape → firewall < length t.lists → RulesAre A.Kind R.Kind list.now rs → PropertiesAre A.Kind R.Kind properties.now t.properties → ((n : ℕ) (p : PropertyOf A R) → slice_get t.properties n ≡ Just p → Kept A.Kind.holds R.Kind.holds t p) → EditFound A.Kind.holds R.Kind.holds t firewall rs (length frames.old) result }
 {
     for (index, row) in properties.iter().enumerate() {
         if let Some(property) = read_property::<A, R>(*row) {
@@ -55,7 +55,7 @@ fn break_at<A: Kind, R: Kind>(
     list: &[RuleRow<A::Row, R::Row>],
     frames: &mut [Frame<PacketRow<A::Row, R::Row>>],
 ) -> Result<Option<Packet<A::Value, R::Value>>, TooShort>
-    ensures { (t : Tree A R) (rs : List (RuleOf A R)) → shape_of tree.now ≡ t.shape → firewall < length t.lists → list.now ≡ map (rule_entry A.Kind.plain R.Kind.plain) rs → Kept A.Kind.holds R.Kind.holds t property → BreakAtFound A.Kind.holds R.Kind.holds t firewall rs property (length frames.old) result }
+    ensures { (t : Tree A R) (rs : List (RuleOf A R)) → shape_of tree.now ≡ t.shape → firewall < length t.lists → RulesAre A.Kind R.Kind list.now rs → Kept A.Kind.holds R.Kind.holds t property → BreakAtFound A.Kind.holds R.Kind.holds t firewall rs property (length frames.old) result }
 {
     let Some(route) = tree.route(property.from, property.to) else {
         return Ok(None);

@@ -1,7 +1,7 @@
 // Standing properties that the blocks misplace.
 ghost use Rattle.std.specs.Prelude.{◌≡◌, map, length};
 ghost use Rattle.checks.specs.Addresses.{BlocksAre};
-ghost use Rattle.checks.specs.Rows.{property_row};
+ghost use Rattle.checks.specs.Rows.{PropertiesAre};
 ghost use Rattle.model.specs.Tree.{Tree};
 ghost use Rattle.verdicts.specs.Misplaced.{SourceFound, AstrayIn, MisplacedFound};
 
@@ -24,7 +24,7 @@ pub fn first_misplaced<A: Kind, R: Kind>(
     properties: &[PropertyRow<A::Row, R::Row>],
     frames: &mut [Frame<A::Row>],
 ) -> Result<Option<Astray<A::Value>>, TooShort>
-    ensures { (t : Tree A R) → BlocksAre A.Kind blocks.now t → properties.now ≡ map (property_row A.Kind.plain R.Kind.plain) t.properties → MisplacedFound A.Kind.holds R.Kind.holds t (length frames.old) result }
+    ensures { (t : Tree A R) → BlocksAre A.Kind blocks.now t → PropertiesAre A.Kind R.Kind properties.now t.properties → MisplacedFound A.Kind.holds R.Kind.holds t (length frames.old) result }
 {
     for (index, row) in properties.iter().enumerate() {
         if let Some(property) = read_property::<A, R>(*row) {

@@ -6,7 +6,7 @@ ghost use Rattle.model.specs.Record.{Sent};
 ghost use Rattle.model.specs.Shape.{Domain};
 ghost use Rattle.model.specs.Tree.{Tree, Block, rules_of};
 ghost use Rattle.model.specs.declared.rules.Rule.{Rule as RuleOf};
-ghost use Rattle.checks.specs.Rows.{rule_entry, block_entry};
+ghost use Rattle.checks.specs.Rows.{block_entry, RulesAre};
 ghost use Rattle.verdicts.specs.Network.{Draws};
 ghost use Rattle.verdicts.specs.Passage.{passage_answer, DiscardFound, StopFound};
 
@@ -68,7 +68,7 @@ fn discarded_at<A: Kind, R: Kind>(
     list: &[RuleRow<A::Row, R::Row>],
     packet: Packet<A::Value, R::Value>,
 ) -> Option<usize>
-    ensures { (rs : List (RuleOf A R)) → list.now ≡ map (rule_entry A.Kind.plain R.Kind.plain) rs → DiscardFound A.Kind.holds R.Kind.holds rs packet result }
+    ensures { (rs : List (RuleOf A R)) → RulesAre A.Kind R.Kind list.now rs → DiscardFound A.Kind.holds R.Kind.holds rs packet result }
 {
     let decided = outcome_of::<PacketRegion<A, R>>(list, packet.into())?;
     if decided.outcome == u32::from(Decision::Discard) {

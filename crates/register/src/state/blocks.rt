@@ -8,7 +8,7 @@ ghost use Rattle.model.specs.declared.answers.Refusal.TheVariants.{NoSuch};
 ghost use Rattle.model.specs.declared.calls.Call.TheVariants.{Give, Take};
 ghost use Rattle.tree.specs.Table.{shape_of};
 ghost use Rattle.checks.specs.Addresses.{BlocksAre};
-ghost use Rattle.checks.specs.Rows.{block_entry, property_row};
+ghost use Rattle.checks.specs.Rows.{block_entry, PropertiesAre};
 ghost use Rattle.register.specs.Blocks.{ApartFrom, AllPlaced};
 ghost use Rattle.register.specs.Memory.{SameMemory, lent_by, tables_of};
 ghost use Rattle.register.specs.Order.{Refuses};
@@ -58,7 +58,7 @@ fn check_placed<A: Kind, R: Kind>(
     frames: &mut [Frame<A::Row>],
 ) -> Result<(), Refusal<A::Value, R::Value>>
     requires { used < length frames.old }
-    ensures { (t : Tree A R) → BlocksAre A.Kind (take used blocks.now) t → take standing properties.now ≡ map (property_row A.Kind.plain R.Kind.plain) t.properties → AllPlaced A.Kind.holds R.Kind.holds t result }
+    ensures { (t : Tree A R) → BlocksAre A.Kind (take used blocks.now) t → PropertiesAre A.Kind R.Kind (take standing properties.now) t.properties → AllPlaced A.Kind.holds R.Kind.holds t result }
 {
     let blocks = used_rows(blocks, used);
     let properties = used_rows(properties, standing);

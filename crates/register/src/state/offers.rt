@@ -53,11 +53,8 @@ impl<A: Kind, R: Kind> Register<A, R> {
     ) -> Result<(), Refusal<A::Value, R::Value>>
         ensures { Refuses result NoSuch ((Domain (shape_of self.now.tree) property.from → ⊥) ⊎ (Domain (shape_of self.now.tree) property.to → ⊥)) }
     {
-        let domains = self.tree.domain_count();
-        if property.from >= domains || property.to >= domains {
-            return Err(Refusal::NoSuch);
-        }
-        Ok(())
+        self.check_domain(property.from)?;
+        self.check_domain(property.to)
     }
 
     // 7: its domains differ and, for discard, share a firewall.

@@ -59,10 +59,7 @@ impl<A, R> Register<A, R> {
     pub(crate) fn check_domain<V, W>(&self, domain: usize) -> Result<(), Refusal<V, W>>
         ensures { Refuses result NoSuch (Domain (shape_of self.now.tree) domain → ⊥) }
     {
-        if domain >= self.tree.domain_count() {
-            return Err(Refusal::NoSuch);
-        }
-        Ok(())
+        check_number(domain, self.tree.domain_count())
     }
 
     // 4: there is room for a domain and for a rule more.
@@ -86,12 +83,8 @@ impl<A: Kind, R: Kind> Register<A, R> {
     ) -> Result<(), Refusal<A::Value, R::Value>>
         ensures { Demands result Outside (RegionsInside A.Kind.holds R.Kind.holds self.now.addresses self.now.rests source destination rest) }
     {
-        if lies_inside(source, self.addresses)
-            && lies_inside(destination, self.addresses)
-            && lies_inside(rest, self.rests)
-        {
-            return Ok(());
-        }
-        Err(Refusal::Outside)
+        check_inside(source, self.addresses)?;
+        check_inside(destination, self.addresses)?;
+        check_inside(rest, self.rests)
     }
 }

@@ -10,7 +10,7 @@ ghost use Rattle.model.specs.declared.calls.Call.TheVariants.{Place, Alter, Lift
 ghost use Rattle.model.specs.declared.rules.Rule.{Rule as RuleOf};
 ghost use Rattle.tree.specs.Table.{shape_of};
 ghost use Rattle.lists.specs.Lengths.{lengths_of, length_at};
-ghost use Rattle.checks.specs.Rows.{rule_entry};
+ghost use Rattle.checks.specs.Rows.{RulesAre};
 ghost use Rattle.register.specs.Edits.{Opened, There, Room, Stands, CompleteJudged, KeptJudged, EditJudged, list_length};
 ghost use Rattle.register.specs.Memory.{SameMemory, lent_by, tables_of};
 ghost use Rattle.register.specs.Order.{Refuses};
@@ -59,7 +59,7 @@ fn check_complete<A: Kind, R: Kind>(
     rests: R,
     frames: &mut [Frame<PacketRow<A::Row, R::Row>>],
 ) -> Result<(), Refusal<A::Value, R::Value>>
-    ensures { (t : Tree A R) (rs : List (RuleOf A R)) → t.addresses ≡ addresses → t.rests ≡ rests → list.now ≡ map (rule_entry A.Kind.plain R.Kind.plain) rs → CompleteJudged A.Kind.holds R.Kind.holds t rs (length frames.old) result }
+    ensures { (t : Tree A R) (rs : List (RuleOf A R)) → t.addresses ≡ addresses → t.rests ≡ rests → RulesAre A.Kind R.Kind list.now rs → CompleteJudged A.Kind.holds R.Kind.holds t rs (length frames.old) result }
 {
     match find_unmatched(list, addresses, rests, frames)? {
         Some(packet) => Err(Refusal::Unmatched { packet }),
@@ -76,7 +76,7 @@ impl<A: Kind, R: Kind> Register<A, R> {
         frames: &mut [Frame<PacketRow<A::Row, R::Row>>],
         firewall: usize,
     ) -> Result<(), Refusal<A::Value, R::Value>>
-        ensures { (t : Tree A R) (rs : List (RuleOf A R)) → Stands A.Kind R.Kind self.now properties.now firewall t → list.now ≡ map (rule_entry A.Kind.plain R.Kind.plain) rs → KeptJudged A.Kind.holds R.Kind.holds t rs (length frames.old) firewall result }
+        ensures { (t : Tree A R) (rs : List (RuleOf A R)) → Stands A.Kind R.Kind self.now properties.now firewall t → RulesAre A.Kind R.Kind list.now rs → KeptJudged A.Kind.holds R.Kind.holds t rs (length frames.old) firewall result }
     {
         let standing = used_rows(properties, self.property_count);
         match first_broken::<A, R>(&self.tree, standing, firewall, list, frames)? {
@@ -97,7 +97,7 @@ impl<A: Kind, R: Kind> Register<A, R> {
         frames: &mut [Frame<PacketRow<A::Row, R::Row>>],
         firewall: usize,
     ) -> Result<(), Refusal<A::Value, R::Value>>
-        ensures { (t : Tree A R) (rs : List (RuleOf A R)) → Stands A.Kind R.Kind self.now properties.now firewall t → list.now ≡ map (rule_entry A.Kind.plain R.Kind.plain) rs → EditJudged A.Kind.holds R.Kind.holds t rs (length frames.old) firewall result }
+        ensures { (t : Tree A R) (rs : List (RuleOf A R)) → Stands A.Kind R.Kind self.now properties.now firewall t → RulesAre A.Kind R.Kind list.now rs → EditJudged A.Kind.holds R.Kind.holds t rs (length frames.old) firewall result }
     {
         check_complete(list, self.addresses, self.rests, frames)?;
         self.check_kept(list, properties, frames, firewall)
