@@ -41,6 +41,8 @@ pub fn host(address: u32) -> PrefixRow
     net(address, 32)
 }
 
+// A constant's value may not call a function, so networks and services are functions without arguments.
+
 // Every address.
 pub fn anywhere() -> PrefixRow
     ensures { result ≡ record { address = 0; length = 0 } }

@@ -21,6 +21,8 @@ pub struct Question {
     pub breaks: Wish,
 }
 
+// `reaches` and `never` differ in a case alone, and stay two: the questions are written in these words.
+
 // All these packets are accepted.
 fn reaches(words: &'static str, packets: PacketsRow) -> Question
     ensures { (result.packets ≡ packets) × (result.breaks ≡ IsNot (Some (number_of Action.Accept))) }

@@ -34,6 +34,7 @@ pub fn first_broken<A: Kind, R: Kind>(
 ) -> Result<Option<Broken<A::Value, R::Value>>, TooShort>
     ensures { (t : Tree A R) (rs : List (RuleOf A R)) → shape_of tree.now ≡ t.shape → firewall < length t.lists → RulesAre A.Kind R.Kind list.now rs → PropertiesAre A.Kind R.Kind properties.now t.properties → ((n : ℕ) (p : PropertyOf A R) → slice_get t.properties n ≡ Just p → Kept A.Kind.holds R.Kind.holds t p) → EditFound A.Kind.holds R.Kind.holds t firewall rs (length frames.old) result }
 {
+    // This loop is `first_misplaced`'s too: a shared one would take a closure over frames, and be no shorter.
     for (index, row) in properties.iter().enumerate() {
         if let Some(property) = read_property::<A, R>(*row) {
             if let Some(packet) = break_at(tree, property, firewall, list, frames)? {

@@ -34,7 +34,8 @@ impl<A: Kind, R: Kind> Register<A, R> {
         }
     }
 
-    // The first break of a property on its route, if anything breaks it.
+    // The first break of a property on its route, if anything breaks it. A function of its own, since a
+    // network made of borrowed memory gets no proof where that memory is lent on.
     pub(crate) fn first_break(
         &self,
         rules: &[RuleRow<A::Row, R::Row>],

@@ -35,6 +35,9 @@ fn check_owner<V, W>(tree: &TreeTable, domain: usize) -> Result<(), Refusal<V, W
     Ok(())
 }
 
+// The next two take a table with how much of it is used: tried with the used rows alone, lent by the
+// caller, after which a proof of the caller does not know the table's rows.
+
 // 6: no used block shares an address with the region.
 fn check_apart<A: Kind, W>(
     blocks: &[BlockRow<A::Row>],
@@ -99,6 +102,7 @@ impl<A: Kind, R: Kind> Register<A, R> {
                 Ok(())
             }
             Err(refusal) => {
+                // It was just written; that `unwrap` may be called was tried, and not proved.
                 let _ = replace_row(blocks, used + 1, used, old);
                 Err(refusal)
             }
@@ -127,7 +131,7 @@ impl<A: Kind, R: Kind> Register<A, R> {
                 Ok(())
             }
             Err(refusal) => {
-                let _ = insert_row(blocks, used - 1, block, row);
+                insert_row(blocks, used - 1, block, row).unwrap();
                 Err(refusal)
             }
         }

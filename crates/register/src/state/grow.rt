@@ -57,7 +57,8 @@ impl<A: Kind, R: Kind> Register<A, R> {
         let row = rule_row(self.catch_all(decision));
         let total = self.lists.total();
         let made = self.tree.attach(domain, upper, lower)?;
-        let _ = replace_row(memory.rules, total + 1, total, row);
+        replace_row(memory.rules, total + 1, total, row).unwrap();
+        // No `unwrap`: where the register stands as no record, nothing ties its lists to its tree.
         let _ = self.lists.add();
         Ok(made)
     }

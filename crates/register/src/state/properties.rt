@@ -59,6 +59,7 @@ impl<A: Kind, R: Kind> Register<A, R> {
         self.check_offer(blocks, address_frames, property)?;
         self.check_offer_kept(rules, packet_frames, property)?;
         let used = self.property_count;
+        // There is room; that `unwrap` may be called was tried, and not proved.
         let _ = replace_row(memory.properties, used + 1, used, property_row(property));
         self.property_count = used + 1;
         Ok(())
@@ -75,7 +76,7 @@ impl<A: Kind, R: Kind> Register<A, R> {
     {
         memory.check_lengths()?;
         check_number(property, self.property_count)?;
-        let _ = remove_row(memory.properties, self.property_count, property);
+        remove_row(memory.properties, self.property_count, property).unwrap();
         self.property_count -= 1;
         Ok(())
     }

@@ -146,12 +146,14 @@ impl<A: Kind, R: Kind> Register<A, R> {
         let behind = insert_row(rules, used, at, rule_row(rule)).unwrap();
         match self.check_kept(rows_from(rules, start, size), properties, frames, firewall) {
             Ok(()) => {
+                // No `unwrap`: where the register stands as no record, nothing ties its lists to its tree.
                 let _ = self.lists.grow(firewall);
                 Ok(())
             }
             Err(refusal) => {
+                // It was just put in; that `unwrap` may be called was tried, and not proved.
                 let _ = remove_row(rules, used + 1, at);
-                let _ = replace_row(rules, used + 1, used, behind);
+                replace_row(rules, used + 1, used, behind).unwrap();
                 Err(refusal)
             }
         }
@@ -195,7 +197,7 @@ impl<A: Kind, R: Kind> Register<A, R> {
         match self.check_edited(rows_from(rules, start, size), properties, frames, firewall) {
             Ok(()) => Ok(()),
             Err(refusal) => {
-                let _ = replace_row(rules, used, at, old);
+                replace_row(rules, used, at, old).unwrap();
                 Err(refusal)
             }
         }
@@ -235,11 +237,11 @@ impl<A: Kind, R: Kind> Register<A, R> {
         let row = remove_row(rules, used, at).unwrap();
         match self.check_edited(rows_from(rules, start, size), properties, frames, firewall) {
             Ok(()) => {
-                let _ = self.lists.shrink(firewall);
+                self.lists.shrink(firewall).unwrap();
                 Ok(())
             }
             Err(refusal) => {
-                let _ = insert_row(rules, used - 1, at, row);
+                insert_row(rules, used - 1, at, row).unwrap();
                 Err(refusal)
             }
         }

@@ -14,6 +14,7 @@ impl TreeTable {
         if from >= self.domain_count() || to >= self.domain_count() {
             return None;
         }
+        // A blank, and no default: no hop of all zeros is meant by one.
         let none = Hop {
             firewall: 0,
             entered: 0,
@@ -22,6 +23,7 @@ impl TreeTable {
         };
         let mut hops = FixedVec::new(none);
         let mut at = from;
+        // It counts no index: it goes on from the domain reached.
         while at != to {
             let hop = self.hop_toward(at, to);
             hops.push(hop).unwrap();

@@ -13,6 +13,7 @@ impl TreeTable {
     pub fn new() -> TreeTable
         ensures { shape_of result ≡ bare }
     {
+        // A blank, and no default: firewall 0 hangs below domain 0 by interface 0 in no new tree.
         let none = Uplink {
             node: 0,
             interface: 0,

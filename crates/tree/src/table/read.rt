@@ -22,7 +22,8 @@ impl TreeTable {
         self.firewalls.get(firewall)
     }
 
-    // Where a domain lies; nothing for domain 0, and where there is none of this number.
+    // Where a domain lies; nothing for domain 0, and where there is none of this number. It is no twin of
+    // the last: domain k is in row k - 1, and domain 0 has none.
     pub fn domain_uplink(&self, domain: usize) -> Option<Uplink>
         ensures { MatchOption result ((f i : ℕ) → Lies (shape_of self.now) domain f i → ⊥) (λ u. Lies (shape_of self.now) domain u.node u.interface) }
     {
