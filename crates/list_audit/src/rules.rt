@@ -10,7 +10,8 @@ use search::Entry;
 use std::error::Error;
 use std::fmt;
 
-// What a rule does with a packet.
+// What a rule does with a packet. `Decision` of the register is this too; this program shows the search
+// alone, without the register's vocabulary.
 #[derive(Clone, Copy, Debug, PartialEq)]
 pub enum Action {
     Accept,
