@@ -1,12 +1,1 @@
-pub mod Order
-pub mod Lent
-pub mod Growing
-pub mod Tries
-pub mod Attaching
-pub mod Standing
 pub mod Promises
-pub mod Offering
-pub mod Asking
-pub mod Sending
-pub mod Blocks
-pub mod Edits

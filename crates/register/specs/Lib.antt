@@ -1,8 +1,5 @@
-pub mod Order
-pub mod Rows
-pub mod Memory
-pub mod Picture
+pub mod Answers
 pub mod Promise
-pub mod Offers
-pub mod Blocks
-pub mod Edits
+pub use Rattle.state.specs.Memory
+pub use Rattle.state.specs.Rows
+pub use Rattle.state.specs.Picture

@@ -9,15 +9,15 @@ use Rattle.model.specs.declared.answers.Lent.{Lent}
 use Rattle.model.specs.declared.answers.Recorded.{Recorded}
 use Rattle.model.specs.declared.answers.Refusal.TheVariants.{TooShort}
 use Rattle.model.specs.declared.calls.Call.{Call}
-use Rattle.register.specs.Picture.{Pictures}
-use Rattle.register.specs.Rows.{Stored, stored_after}
-use Rattle.register.specs.declared.state.Register.{Register}
+use Rattle.state.specs.Picture.{Pictures}
+use Rattle.state.specs.Rows.{Stored, stored_after}
+use Rattle.register.specs.declared.register.Register.{Register}
 
 module _ {A R V W X Y : Type 0} (ka : Ghosts A V X) (kr : Ghosts R W Y) where
   -- register and tables stand as the record leaves them, and the record is lawful: each of its answers is right in the plain tree
   -- just before it, and after each entry every standing property is well placed and no packet breaks it
   pub record Tells (a : A) (r : R) (es : List (Recorded A R V W)) (g : Register A R) (s : Stored X Y) : Type 0 where
-    pub pictures : Pictures ka.plain kr.plain g s (plain a r es)
+    pub pictures : Pictures ka.plain kr.plain g.state s (plain a r es)
     pub lawful : Lawful ka.holds kr.holds a r es
 
   -- what a call does to register g and tables s, with these lengths lent: it answers a, and leaves h and z
@@ -27,6 +27,6 @@ module _ {A R V W X Y : Type 0} (ka : Ghosts A V X) (kr : Ghosts R W Y) where
     -- whatever the tables are: a refusal leaves the register as it was
     pub kept : IfSome (refused a) (λ q. h ≡ g)
     -- and the tables; any other answer leaves them so, row by row
-    pub rows : MatchOption (refused a) (z ≡ stored_after ka.plain kr.plain g s c) (λ q. z ≡ s)
+    pub rows : MatchOption (refused a) (z ≡ stored_after ka.plain kr.plain g.state s c) (λ q. z ≡ s)
     -- slices that are too short are always refused as that
     pub short : IsTooShort l → a ≡ Refused TooShort

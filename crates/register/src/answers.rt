@@ -1,7 +1,8 @@
 // The answer that the result of a call stands for.
 ghost use Rattle.std.specs.Prelude.{◌≡◌};
-ghost use Rattle.register.specs.Picture.{Answers, asked_as};
 ghost use Rattle.verdicts.specs.Passage.{passage_answer};
+ghost use Rattle.offers.specs.Asked.{asked_as};
+ghost use Rattle.register.specs.Answers.{Answers};
 
 use model::{Answer, Refusal};
 use verdicts::{Break, Stop};

@@ -1,11 +1,11 @@
 // Any call, by its value.
-ghost use Rattle.register.specs.Memory.{SameMemory, lent_by, tables_of};
+ghost use Rattle.state.specs.Memory.{SameMemory, lent_by, tables_of};
 ghost use Rattle.register.specs.Promise.{Promise};
 
-use crate::memory::Memory;
-use crate::state::Register;
+use crate::register::Register;
 use kinds::Kind;
 use model::{Answer, Call};
+use state::Memory;
 
 impl<A: Kind, R: Kind> Register<A, R> {
     // Makes the call, and answers what it answers.

@@ -1,14 +1,14 @@
 // The eleven calls. Each promises, for every record that register and tables tell so far, that they tell
 // it with this call and its answer added, and that it is lawful.
 ghost use Rattle.model.specs.declared.calls.Call.TheVariants.{Attach, Branch, Give, Take, Place, Alter, Lift, Stand, Withdraw, Ask, Send};
-ghost use Rattle.register.specs.Memory.{SameMemory, lent_by, tables_of};
+ghost use Rattle.state.specs.Memory.{SameMemory, lent_by, tables_of};
 ghost use Rattle.register.specs.Promise.{Promise};
 
 use crate::answers::{answer, asked, sent};
-use crate::memory::Memory;
-use crate::state::Register;
+use crate::register::Register;
 use kinds::Kind;
 use model::{Answer, Decision, Header, Property, Rule};
+use state::Memory;
 
 impl<A: Kind, R: Kind> Register<A, R> {
     // Hangs the next firewall below a domain, with one rule for every packet of the whole, and the next
@@ -25,7 +25,7 @@ impl<A: Kind, R: Kind> Register<A, R> {
         ensures same { SameMemory memory.old memory.new }
     {
         answer(
-            self.try_attach(memory, domain, upper, lower, decision),
+            growth::attach(&mut self.state, memory, domain, upper, lower, decision),
             |(firewall, domain)| Answer::Attached { firewall, domain },
         )
     }
@@ -40,7 +40,7 @@ impl<A: Kind, R: Kind> Register<A, R> {
         ensures { Promise A.Kind R.Kind self.old (tables_of memory.now) (Branch firewall interface) (lent_by memory.now) result self.new (tables_of memory.now) }
     {
         answer(
-            self.try_branch(memory, firewall, interface),
+            growth::branch(&mut self.state, memory, firewall, interface),
             |domain| Answer::Branched { domain },
         )
     }
@@ -55,7 +55,10 @@ impl<A: Kind, R: Kind> Register<A, R> {
         ensures promise { Promise A.Kind R.Kind self.old (tables_of memory.old) (Give domain region) (lent_by memory.old) result self.new (tables_of memory.new) }
         ensures same { SameMemory memory.old memory.new }
     {
-        answer(self.try_give(memory, domain, region), |()| Answer::Done)
+        answer(
+            growth::give(&mut self.state, memory, domain, region),
+            |()| Answer::Done,
+        )
     }
 
     // Takes a block back.
@@ -67,7 +70,10 @@ impl<A: Kind, R: Kind> Register<A, R> {
         ensures promise { Promise A.Kind R.Kind self.old (tables_of memory.old) (Take block) (lent_by memory.old) result self.new (tables_of memory.new) }
         ensures same { SameMemory memory.old memory.new }
     {
-        answer(self.try_take(memory, block), |()| Answer::Done)
+        answer(
+            growth::take(&mut self.state, memory, block),
+            |()| Answer::Done,
+        )
     }
 
     // Inserts a rule into a firewall's list.
@@ -82,7 +88,7 @@ impl<A: Kind, R: Kind> Register<A, R> {
         ensures same { SameMemory memory.old memory.new }
     {
         answer(
-            self.try_place(memory, firewall, position, rule),
+            edits::place(&mut self.state, memory, firewall, position, rule),
             |()| Answer::Done,
         )
     }
@@ -99,7 +105,7 @@ impl<A: Kind, R: Kind> Register<A, R> {
         ensures same { SameMemory memory.old memory.new }
     {
         answer(
-            self.try_alter(memory, firewall, position, rule),
+            edits::alter(&self.state, memory, firewall, position, rule),
             |()| Answer::Done,
         )
     }
@@ -114,7 +120,10 @@ impl<A: Kind, R: Kind> Register<A, R> {
         ensures promise { Promise A.Kind R.Kind self.old (tables_of memory.old) (Lift firewall position) (lent_by memory.old) result self.new (tables_of memory.new) }
         ensures same { SameMemory memory.old memory.new }
     {
-        answer(self.try_lift(memory, firewall, position), |()| Answer::Done)
+        answer(
+            edits::lift(&mut self.state, memory, firewall, position),
+            |()| Answer::Done,
+        )
     }
 
     // Declares a property standing.
@@ -126,7 +135,10 @@ impl<A: Kind, R: Kind> Register<A, R> {
         ensures promise { Promise A.Kind R.Kind self.old (tables_of memory.old) (Stand property) (lent_by memory.old) result self.new (tables_of memory.new) }
         ensures same { SameMemory memory.old memory.new }
     {
-        answer(self.try_stand(memory, property), |()| Answer::Done)
+        answer(
+            offers::stand(&mut self.state, memory, property),
+            |()| Answer::Done,
+        )
     }
 
     // Takes a standing property away.
@@ -138,7 +150,10 @@ impl<A: Kind, R: Kind> Register<A, R> {
         ensures promise { Promise A.Kind R.Kind self.old (tables_of memory.old) (Withdraw property) (lent_by memory.old) result self.new (tables_of memory.new) }
         ensures same { SameMemory memory.old memory.new }
     {
-        answer(self.try_withdraw(memory, property), |()| Answer::Done)
+        answer(
+            offers::withdraw(&mut self.state, memory, property),
+            |()| Answer::Done,
+        )
     }
 
     // Whether a property is kept, or where and by which packet it is broken.
@@ -150,7 +165,7 @@ impl<A: Kind, R: Kind> Register<A, R> {
         ensures promise { Promise A.Kind R.Kind self.now (tables_of memory.old) (Ask property) (lent_by memory.old) result self.now (tables_of memory.new) }
         ensures same { SameMemory memory.old memory.new }
     {
-        answer(self.try_ask(memory, property), asked)
+        answer(offers::ask(&self.state, memory, property), asked)
     }
 
     // What becomes of a packet on its way.
@@ -162,6 +177,9 @@ impl<A: Kind, R: Kind> Register<A, R> {
         ensures { Promise A.Kind R.Kind self.now (tables_of memory.now) (Send header) (lent_by memory.now) result self.now (tables_of memory.now) }
     {
         // The name alone gets no proof, since nothing that `sent` takes names the kinds.
-        answer(self.try_send(memory, header), |passage| sent(passage))
+        answer(
+            offers::send(&self.state, memory, header),
+            |passage| sent(passage),
+        )
     }
 }

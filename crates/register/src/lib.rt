@@ -4,8 +4,7 @@
 mod answers;
 mod apply;
 mod calls;
-mod memory;
-mod state;
+mod register;
 
-pub use memory::Memory;
-pub use state::Register;
+pub use register::Register;
+pub use state::Memory;

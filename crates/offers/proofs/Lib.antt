@@ -1,0 +1,4 @@
+pub mod Offering
+pub mod Asking
+pub mod Standing
+pub mod Sending

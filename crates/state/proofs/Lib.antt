@@ -1,0 +1,3 @@
+pub mod Order
+pub mod Lent
+pub mod Tries
