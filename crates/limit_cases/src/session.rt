@@ -1,0 +1,198 @@
+// A register, the memory that it is lent, and all numbers of its answers so far.
+use crate::numbered::Numbered;
+use anyhow::ensure;
+use kinds::{Kind, whole_packets};
+use model::{Answer, Call, Lent, Packet, Refusal};
+use register::{Memory, Register};
+use replay::{Stores, least_lengths, stores_with};
+use search::Frame;
+use std::alloc::{AllocError, Global};
+
+pub type CallOf<A, R> = Call<A, R, <A as Kind>::Value, <R as Kind>::Value>;
+
+// How calls are made: as they are, with other junk in the frames, or each first with too little memory.
+#[derive(Clone, Copy, PartialEq)]
+pub enum Manner {
+    Plain,
+    Junk,
+    Short,
+}
+
+#[derive(Drop)]
+pub struct Session<A: Kind, R: Kind> {
+    pub addresses: A,
+    pub rests: R,
+    register: Register<A, R>,
+    stores: Stores<A::Row, R::Row>,
+    manner: Manner,
+    pub short_calls: u32,
+    pub log: Vec<u32>,
+}
+
+// Makes a call with so much memory.
+fn lend<A: Kind, R: Kind>(
+    register: &mut Register<A, R>,
+    stores: &mut Stores<A::Row, R::Row>,
+    lent: Lent,
+    call: CallOf<A, R>,
+) -> Answer<A::Value, R::Value> {
+    let rules = lent.rules.min(stores.rules.len());
+    let blocks = lent.blocks.min(stores.blocks.len());
+    let properties = lent.properties.min(stores.properties.len());
+    let packet_frames = lent.packet_frames.min(stores.packet_frames.len());
+    let address_frames = lent.address_frames.min(stores.address_frames.len());
+    let mut memory = Memory {
+        rules: &mut stores.rules[..rules],
+        blocks: &mut stores.blocks[..blocks],
+        properties: &mut stores.properties[..properties],
+        packet_frames: &mut stores.packet_frames[..packet_frames],
+        address_frames: &mut stores.address_frames[..address_frames],
+    };
+    register.apply(&mut memory, call)
+}
+
+fn note_packet<A: Kind + Numbered, R: Kind + Numbered>(
+    packet: Packet<A::Value, R::Value>,
+    log: &mut Vec<u32>,
+) -> Result<(), AllocError> {
+    log.push(u32::from(packet.interface))?;
+    A::note(packet.source, log)?;
+    A::note(packet.destination, log)?;
+    R::note(packet.rest, log)
+}
+
+fn note_all(numbers: &[usize], log: &mut Vec<u32>) -> Result<(), AllocError> {
+    for number in numbers {
+        log.push((*number & 0xffff) as u32)?;
+    }
+    Ok(())
+}
+
+fn note_refusal<A: Kind + Numbered, R: Kind + Numbered>(
+    refusal: Refusal<A::Value, R::Value>,
+    log: &mut Vec<u32>,
+) -> Result<(), AllocError> {
+    log.push(u32::from(refusal.number()))?;
+    match refusal {
+        Refusal::Overlap { block } => note_all(&[block], log),
+        Refusal::SourceAstray { address } | Refusal::DestinationAstray { address } => {
+            A::note(address, log)
+        }
+        Refusal::Unmatched { packet } => note_packet::<A, R>(packet, log),
+        Refusal::Misplaced { property, address } => {
+            note_all(&[property], log)?;
+            A::note(address, log)
+        }
+        Refusal::Breaks {
+            property,
+            firewall,
+            packet,
+        } => {
+            note_all(&[property, firewall], log)?;
+            note_packet::<A, R>(packet, log)
+        }
+        _ => Ok(()),
+    }
+}
+
+// Each answer begins with a number of its own, above those of refusals.
+fn note<A: Kind + Numbered, R: Kind + Numbered>(
+    answer: Answer<A::Value, R::Value>,
+    log: &mut Vec<u32>,
+) -> Result<(), AllocError> {
+    match answer {
+        Answer::Done => note_all(&[20], log),
+        Answer::Attached { firewall, domain } => note_all(&[21, firewall, domain], log),
+        Answer::Branched { domain } => note_all(&[22, domain], log),
+        Answer::Kept => note_all(&[23], log),
+        Answer::Broken { firewall, packet } => {
+            note_all(&[24, firewall], log)?;
+            note_packet::<A, R>(packet, log)
+        }
+        Answer::Passed => note_all(&[25], log),
+        Answer::Stopped { firewall, position } => note_all(&[26, firewall, position], log),
+        Answer::Refused { refusal } => note_refusal::<A, R>(refusal, log),
+    }
+}
+
+// The number of the refusal that an answer is, if it is one.
+fn refused<V, W>(answer: &Answer<V, W>) -> Option<u8> {
+    match answer {
+        Answer::Refused { refusal } => Some(refusal.number()),
+        _ => None,
+    }
+}
+
+// One row less in one of the five slices.
+fn shorter(slice: usize) -> Lent {
+    let least = least_lengths();
+    let less = |place: usize, length: usize| if place == slice { length - 1 } else { length };
+    Lent {
+        rules: less(0, least.rules),
+        blocks: less(1, least.blocks),
+        properties: less(2, least.properties),
+        packet_frames: less(3, least.packet_frames),
+        address_frames: less(4, least.address_frames),
+    }
+}
+
+impl<A: Kind + Numbered, R: Kind + Numbered> Session<A, R> {
+    pub fn new(alloc: Global, addresses: A, rests: R, manner: Manner) -> anyhow::Result<Self> {
+        let stores = stores_with(alloc, least_lengths(), addresses, rests)?;
+        Ok(Session {
+            addresses,
+            rests,
+            register: Register::new(addresses, rests),
+            stores,
+            manner,
+            short_calls: 0,
+            log: Vec::new(alloc),
+        })
+    }
+
+    // A new register, over tables and frames as the last one left them.
+    pub fn restart(&mut self) {
+        self.register = Register::new(self.addresses, self.rests);
+    }
+
+    // Writes other rows and positions into all frames.
+    fn write_junk(&mut self, region: A, rest: R) {
+        let row = whole_packets(region, rest).row();
+        for frame in self.stores.packet_frames.iter_mut() {
+            *frame = Frame { row, position: 77 };
+        }
+        let row = region.row();
+        for frame in self.stores.address_frames.iter_mut() {
+            *frame = Frame { row, position: 78 };
+        }
+    }
+
+    // Makes the call with each of the five slices too short in turn.
+    fn call_short(&mut self, call: CallOf<A, R>) -> anyhow::Result<()> {
+        for slice in 0..5 {
+            let answer = lend(&mut self.register, &mut self.stores, shorter(slice), call);
+            ensure!(
+                refused(&answer) == Some(1),
+                "a slice that is too short does not get 1"
+            );
+            self.short_calls = self.short_calls.saturating_add(1);
+        }
+        Ok(())
+    }
+
+    // Makes the call, notes the answer, and answers the number of its refusal, if it is one.
+    pub fn call(&mut self, call: CallOf<A, R>) -> anyhow::Result<Option<u8>> {
+        match self.manner {
+            Manner::Plain => (),
+            Manner::Junk => {
+                if let (Some(region), Some(rest)) = (A::single(3), R::single(1)) {
+                    self.write_junk(region, rest);
+                }
+            }
+            Manner::Short => self.call_short(call)?,
+        }
+        let answer = lend(&mut self.register, &mut self.stores, least_lengths(), call);
+        note::<A, R>(answer, &mut self.log)?;
+        Ok(refused(&answer))
+    }
+}

@@ -1,0 +1,35 @@
+// How many bytes things have, as docs/register.md says; each is evaluated when the crate is checked.
+use checks::{BlockRow, PacketRow, PropertyRow, RuleRow};
+use kinds::{FlatRest, LongRest, Pair, Prefix, PrefixRow, Range, RangeRow, SetRow};
+use register::Register;
+use search::Frame;
+use std::mem::size_of;
+
+// The rows of rests.
+type LongRow = Pair<RangeRow, Pair<RangeRow, RangeRow>>;
+
+type FlatRow = Pair<RangeRow, SetRow>;
+
+const _: () = prove!(size_of::<Register<Prefix, LongRest>>() == 2592);
+
+const _: () = prove!(size_of::<Register<Range, FlatRest>>() == 2584);
+
+const _: () = prove!(size_of::<RuleRow<PrefixRow, LongRow>>() == 48);
+
+const _: () = prove!(size_of::<BlockRow<PrefixRow>>() == 12);
+
+const _: () = prove!(size_of::<PropertyRow<PrefixRow, LongRow>>() == 64);
+
+const _: () = prove!(size_of::<Frame<PacketRow<PrefixRow, LongRow>>>() == 56);
+
+const _: () = prove!(size_of::<Frame<PrefixRow>>() == 16);
+
+const _: () = prove!(size_of::<RuleRow<RangeRow, FlatRow>>() == 36);
+
+const _: () = prove!(size_of::<BlockRow<RangeRow>>() == 12);
+
+const _: () = prove!(size_of::<PropertyRow<RangeRow, FlatRow>>() == 56);
+
+const _: () = prove!(size_of::<Frame<PacketRow<RangeRow, FlatRow>>>() == 40);
+
+const _: () = prove!(size_of::<Frame<RangeRow>>() == 16);
