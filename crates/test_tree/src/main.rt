@@ -20,12 +20,6 @@ fn main(rt: HostRuntime) -> anyhow::Result<()> {
     let tally = walk(&rt, &long, Tally::default())?;
     println!(&rt; "The Flat form")?;
     let tally = walk(&rt, &flat, tally)?;
-    let Tally {
-        calls,
-        refused,
-        kept,
-        broken,
-    } = tally;
-    println!(&rt; "{calls} calls, {refused} refused, {kept} kept, {broken} broken")?;
+    println!(&rt; "{tally}")?;
     Ok(())
 }

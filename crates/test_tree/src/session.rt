@@ -3,9 +3,10 @@ use crate::answers::answer;
 use crate::plan::Plan;
 use crate::shown::Shown;
 use kinds::Kind;
-use model::{Answer, Call};
+use model::{Answer, Call, Lent};
 use register::{Memory, Register};
-use replay::{Stores, least_lengths, stores_with};
+use replay::{Step, Stores, least_lengths, replay, stores_with};
+use std::fmt;
 
 pub type CallOf<A, R> = Call<A, R, <A as Kind>::Value, <R as Kind>::Value>;
 
@@ -16,6 +17,21 @@ pub struct Tally {
     pub refused: u32,
     pub kept: u32,
     pub broken: u32,
+}
+
+impl fmt::Display for Tally {
+    fn fmt<W: fmt::Write>(&self, f: &mut fmt::Formatter<W>) -> fmt::Result {
+        let Tally {
+            calls,
+            refused,
+            kept,
+            broken,
+        } = *self;
+        write!(
+            f,
+            "{calls} calls, {refused} refused, {kept} kept, {broken} broken"
+        )
+    }
 }
 
 impl Tally {
@@ -35,6 +51,7 @@ pub struct Session<'a, A: Kind, R: Kind, P: Print + AllocGlobal> {
     rt: &'a P,
     register: Register<A, R>,
     stores: Stores<A::Row, R::Row>,
+    steps: Vec<Step<A, R, A::Value, R::Value>>,
     pub tally: Tally,
 }
 
@@ -45,8 +62,28 @@ impl<'a, A: Kind + Shown, R: Kind + Shown, P: Print + AllocGlobal> Session<'a, A
             rt,
             register: Register::new(plan.addresses, plan.rests),
             stores,
+            steps: Vec::new(rt.alloc()),
             tally,
         })
+    }
+
+    // Makes all calls so far once more, by a replay that begins without any rows; what it answers.
+    pub fn replay(&self, plan: &Plan<A, R>) -> anyhow::Result<Tally> {
+        let none = Lent {
+            rules: 0,
+            blocks: 0,
+            properties: 0,
+            packet_frames: 0,
+            address_frames: 0,
+        };
+        let alloc = self.rt.alloc();
+        let stores = stores_with(alloc, none, plan.addresses, plan.rests)?;
+        let record = replay(plan.addresses, plan.rests, stores, &self.steps, alloc)?;
+        let mut tally = Tally::default();
+        for entry in record.iter() {
+            tally.count(&entry.answer);
+        }
+        Ok(tally)
     }
 
     // Makes one call, and prints the answer beside what it is about.
@@ -59,6 +96,8 @@ impl<'a, A: Kind + Shown, R: Kind + Shown, P: Print + AllocGlobal> Session<'a, A
             address_frames: &mut self.stores.address_frames,
         };
         let said = self.register.apply(&mut memory, call);
+        let lent = least_lengths();
+        self.steps.push(Step { call, lent })?;
         self.tally.count(&said);
         let said = answer::<A, R>(self.rt.alloc(), said)?;
         println!(self.rt; "{words}: {said}")?;

@@ -24,5 +24,7 @@ pub(crate) fn walk<A: Kind + Shown, R: Kind + Shown>(
     policy::break_all(&mut session, plan)?;
     packets::send_all(&mut session, plan)?;
     policy::clear(&mut session, plan)?;
+    let again = session.replay(plan)?;
+    println!(rt; "replayed: {again}")?;
     Ok(session.tally)
 }
