@@ -105,15 +105,20 @@ impl Fixed {
         part(answer).0
     }
 
-    // Whether it is a refusal.
-    pub fn is_refusal(self) -> bool {
-        matches!(
-            self,
-            Fixed::Refused { .. }
-                | Fixed::Overlap { .. }
-                | Fixed::Misplaced { .. }
-                | Fixed::Breaks { .. }
-        )
+    // The number of the refusal that it is, if it is one.
+    pub fn refusal(self) -> Option<u8> {
+        match self {
+            Fixed::Refused { number } => Some(number),
+            Fixed::Overlap { .. } => Some(6),
+            Fixed::Misplaced { .. } => Some(11),
+            Fixed::Breaks { .. } => Some(12),
+            _ => None,
+        }
+    }
+
+    // Whether a call that is answered so may change a table.
+    pub fn changes(self) -> bool {
+        matches!(self, Fixed::Done | Fixed::Attached { .. })
     }
 }
 

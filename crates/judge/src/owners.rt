@@ -13,7 +13,7 @@ impl PlainTree {
     }
 
     // The addresses of a domain.
-    fn addresses_of(&self, domain: usize) -> u128 {
+    pub fn addresses_of(&self, domain: usize) -> u128 {
         if domain == 0 {
             let given = self.given(|_| true);
             return self.wholes.addresses & !given;

@@ -1,0 +1,124 @@
+// Draws calls that are mostly good in the tree as it stands.
+use crate::both::{Drawn, Known};
+use crate::forms::Form;
+use crate::names::Name;
+use crate::random::Random;
+use judge::PlainTree;
+use kinds::Kind;
+use model::{Call, Decision, Header, MAX_INTERFACES};
+
+pub mod property;
+pub mod rule;
+
+// What calls are drawn from.
+#[derive(Clone, Copy)]
+pub struct Draw<'a, A: Kind, R: Kind> {
+    pub form: &'a Form<A, R>,
+    pub tree: &'a PlainTree,
+}
+
+pub type DrawnOf<A, R> = Drawn<A, R, <A as Kind>::Value, <R as Kind>::Value>;
+
+fn interface(random: &mut Random) -> u32 {
+    if random.once_in(32) {
+        return MAX_INTERFACES;
+    }
+    random.word() % MAX_INTERFACES
+}
+
+fn decision(random: &mut Random) -> Decision {
+    if random.once_in(3) {
+        Decision::Discard
+    } else {
+        Decision::Accept
+    }
+}
+
+impl<A: Kind, R: Kind> Draw<'_, A, R> {
+    // A call of this name; nothing where a form has no values.
+    pub fn call(&self, random: &mut Random, name: Name) -> Option<DrawnOf<A, R>> {
+        Some(match name {
+            Name::Attach => self.attach(random),
+            Name::Branch => self.branch(random),
+            Name::Give => self.give(random),
+            Name::Take => Call::Take {
+                block: random.number(self.tree.blocks.len()),
+            },
+            Name::Place => self.place(random),
+            Name::Alter => self.alter(random),
+            Name::Lift => self.lift(random),
+            Name::Stand => Call::Stand {
+                property: self.property(random),
+            },
+            Name::Withdraw => Call::Withdraw {
+                property: random.number(self.tree.properties.len()),
+            },
+            Name::Ask => Call::Ask {
+                property: self.property(random),
+            },
+            Name::Send => self.send(random)?,
+        })
+    }
+
+    // Often below the newest domain, so that some lie deep.
+    fn attach(&self, random: &mut Random) -> DrawnOf<A, R> {
+        let count = self.tree.domains.len();
+        let domain = if random.once_in(3) {
+            count.saturating_sub(1)
+        } else {
+            random.number(count)
+        };
+        Call::Attach {
+            domain,
+            upper: interface(random),
+            lower: interface(random),
+            decision: decision(random),
+        }
+    }
+
+    fn branch(&self, random: &mut Random) -> DrawnOf<A, R> {
+        Call::Branch {
+            firewall: random.number(self.tree.firewalls.len()),
+            interface: interface(random),
+        }
+    }
+
+    // Mostly a region of addresses that no block holds.
+    fn give(&self, random: &mut Random) -> DrawnOf<A, R> {
+        let domain = random.number(self.tree.domains.len());
+        let free = self.tree.addresses_of(0);
+        Call::Give {
+            domain: if random.once_in(8) {
+                domain
+            } else {
+                domain.max(1)
+            },
+            region: self.block(random, free),
+        }
+    }
+
+    fn block(&self, random: &mut Random, free: u128) -> Known<A> {
+        let pool = &self.form.addresses;
+        match random.below(8) {
+            0 => pool.any(random),
+            1 | 2 => pool.within(random, free),
+            _ => match pool.single(random, free) {
+                Some(single) => single,
+                None => pool.inside(random),
+            },
+        }
+    }
+
+    fn send(&self, random: &mut Random) -> Option<DrawnOf<A, R>> {
+        let source = self.form.addresses.member(random)?;
+        let destination = self.form.addresses.member(random)?;
+        let rest = self.form.rests.member(random)?;
+        Some(Call::Send {
+            header: Header {
+                source,
+                destination,
+                rest,
+            },
+        })
+    }
+}

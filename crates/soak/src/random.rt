@@ -1,0 +1,49 @@
+// Numbers that look random, the same in each run.
+ghost use Rattle.std.specs.Prelude.{◌<◌};
+
+use rand_core::Rng;
+use rand_pcg::Pcg32;
+
+const STREAM: u64 = 54;
+
+#[derive(Drop)]
+pub struct Random(Pcg32);
+
+impl Random {
+    pub fn new(seed: u64) -> Random {
+        Random(Pcg32::new(seed, STREAM))
+    }
+
+    // Any 32 bits.
+    pub fn word(&mut self) -> u32 {
+        self.0.next_u32()
+    }
+
+    // A number below `n`; 0 where that is 0.
+    pub fn below(&mut self, n: usize) -> usize
+        ensures { 0 < n → result < n }
+    {
+        let word = self.word() as usize;
+        if n == 0 { 0 } else { word % n }
+    }
+
+    // Yes once in so many times.
+    pub fn once_in(&mut self, times: usize) -> bool {
+        self.below(times) == 0
+    }
+
+    // A number below the count, now and then the one just past the edge.
+    pub fn number(&mut self, count: usize) -> usize {
+        if self.once_in(32) {
+            count
+        } else {
+            self.below(count)
+        }
+    }
+
+    // One of the items, if there are any.
+    pub fn pick<T: Copy>(&mut self, items: &[T]) -> Option<T> {
+        let at = self.below(items.len());
+        items.get(at).copied()
+    }
+}
