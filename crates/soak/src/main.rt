@@ -1,15 +1,6 @@
 // Makes many calls on one register of each packet form, and holds each answer to the judge.
 #![tactic(auto)]
 
-mod answers;
-mod both;
-mod draw;
-mod forms;
-mod lent;
-mod names;
-mod phases;
-mod pool;
-mod random;
 mod rows;
 mod run;
 mod store;
@@ -17,7 +8,7 @@ mod tables;
 mod tally;
 
 use anyhow::{Context, bail, ensure};
-use forms::{Form, flat, long};
+use draws::{Form, flat, long};
 use rows::RowKind;
 use run::run;
 use std::alloc::Global;

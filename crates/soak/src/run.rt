@@ -1,16 +1,10 @@
 // A run: calls drawn, made and judged one after another.
-use crate::both::{plain, typed};
-use crate::draw::Draw;
-use crate::forms::Form;
-use crate::lent::draw_lent;
-use crate::names::Name;
-use crate::phases::draw_name;
-use crate::random::Random;
 use crate::rows::RowKind;
 use crate::store::Store;
 use crate::tables::are_same_tables;
 use crate::tally::Tally;
 use anyhow::{Context, ensure};
+use draws::{Draw, Form, Name, Random, draw_lent, draw_name, plain, typed};
 use judge::{Case, Fixed, PlainAnswer, PlainCall, PlainTree, Wholes};
 use model::Lent;
 use register::Register;

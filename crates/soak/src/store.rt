@@ -1,9 +1,7 @@
 // The memory that lasts for a run, of which each call is lent a part.
-use crate::forms::Form;
-use crate::lent::{ASKED, MORE};
-use crate::random::Random;
 use crate::tables::Tables;
 use checks::{PacketRow, PropertyRow, RuleRow, block_row, property_row, rule_row};
+use draws::{ASKED, Form, MORE, Random};
 use kinds::{Kind, Set};
 use model::{Answer, Call, Decision, Lent, Property, Rule};
 use register::{Memory, Register};

@@ -1,5 +1,5 @@
 // What was called and answered, counted.
-use crate::names::{NAMES, Name};
+use draws::{NAMES, Name};
 use judge::{Fixed, PlainTree};
 use model::{MAX_BLOCKS, MAX_DOMAINS, MAX_LIST, MAX_PROPERTIES, MAX_RULES};
 use std::io;

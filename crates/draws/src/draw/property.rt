@@ -1,8 +1,7 @@
 // Properties that may stand.
-use super::Draw;
+use super::{Draw, decision};
 use crate::both::Known;
 use crate::random::Random;
-use judge::value;
 use kinds::Kind;
 use model::{Decision, Property};
 
@@ -47,26 +46,37 @@ impl<A: Kind, R: Kind> Draw<'_, A, R> {
                 Some(ends) => ends,
                 None => self.any_ends(random),
             },
-            _ => Ends {
-                sort: Decision::Accept,
-                from: self.owner_of_any(random),
-                to: self.owner_of_any(random),
-            },
+            _ => self.apart(random),
         }
     }
 
     fn any_ends(&self, random: &mut Random) -> Ends {
         let count = self.tree.domains.len();
         Ends {
-            sort: super::decision(random),
+            sort: decision(random, 2),
             from: random.number(count),
             to: random.number(count),
         }
     }
 
-    // The domain of some address.
-    fn owner_of_any(&self, random: &mut Random) -> usize {
-        self.tree.owner(value(random.word() % 128))
+    // Two domains that have addresses, and differ if not all addresses are of one.
+    fn apart(&self, random: &mut Random) -> Ends {
+        let all = self.form.addresses.whole.plain.values;
+        let from = self.owner_of_one(random, all);
+        let others = all & !self.tree.addresses_of(from);
+        Ends {
+            sort: Decision::Accept,
+            from,
+            to: self.owner_of_one(random, others),
+        }
+    }
+
+    // The domain of one of these addresses.
+    fn owner_of_one(&self, random: &mut Random, addresses: u128) -> usize {
+        match random.value(addresses) {
+            Some(address) => self.tree.owner(address),
+            None => 0,
+        }
     }
 
     // Two domains that are joined to one firewall, or one of them twice.

@@ -1,7 +1,7 @@
 // What addresses, or rests, are drawn from: a whole, and regions inside it and outside.
 use crate::both::{Known, Member};
 use crate::random::Random;
-use judge::{Region, Values, value};
+use judge::{Region, value};
 use kinds::Kind;
 use std::alloc::{AllocError, Global};
 
@@ -55,12 +55,6 @@ fn know<K: Kind>(region: K, values: &[Member<K::Value>]) -> Known<K> {
     }
 }
 
-// Some value of a set; nothing where it is empty.
-fn pick_value(random: &mut Random, set: u128) -> Option<u128> {
-    let place = random.below(set.count_ones() as usize);
-    Values(set).nth(place)
-}
-
 impl<K: Kind> Pool<K> {
     pub fn new(
         heap: Global,
@@ -107,7 +101,7 @@ impl<K: Kind> Pool<K> {
         if random.once_in(48) {
             return random.pick(&self.values);
         }
-        let wanted = pick_value(random, self.whole.plain.values)?;
+        let wanted = random.value(self.whole.plain.values)?;
         self.values
             .iter()
             .find(|member| member.plain == wanted)
@@ -116,7 +110,7 @@ impl<K: Kind> Pool<K> {
 
     // The region of one value of a set; nothing where the set is empty.
     pub fn single(&self, random: &mut Random, set: u128) -> Option<Known<K>> {
-        let wanted = pick_value(random, set)?;
+        let wanted = random.value(set)?;
         self.inside
             .iter()
             .find(|known| known.plain.values == wanted)

@@ -8,21 +8,21 @@ const LENGTH: usize = 625;
 // The weights of attach, branch, give, take, place, alter, lift, stand, withdraw, ask and send.
 const PHASES: [[usize; 11]; 8] = [
     // Domains, and blocks in them.
-    [8, 8, 24, 4, 10, 4, 4, 10, 2, 12, 14],
+    [5, 5, 24, 4, 12, 4, 4, 12, 2, 14, 14],
     // Long lists.
-    [4, 4, 4, 2, 70, 6, 2, 2, 1, 2, 3],
+    [3, 3, 4, 2, 70, 6, 2, 4, 1, 2, 3],
     // Edits of them.
-    [1, 2, 2, 2, 30, 26, 24, 3, 1, 4, 5],
+    [1, 2, 2, 2, 30, 26, 24, 4, 1, 4, 4],
     // Properties go.
-    [1, 1, 6, 8, 6, 8, 24, 4, 30, 6, 6],
+    [1, 1, 8, 8, 6, 8, 30, 4, 20, 7, 7],
     // Blocks, to the last address.
-    [1, 1, 70, 6, 2, 2, 4, 2, 6, 3, 3],
+    [1, 1, 70, 8, 2, 2, 4, 0, 6, 3, 3],
     // Properties.
-    [1, 1, 4, 4, 4, 4, 4, 60, 2, 8, 8],
+    [1, 1, 4, 2, 4, 4, 8, 66, 0, 5, 5],
     // Edits under all that stands.
-    [2, 2, 4, 10, 20, 20, 18, 6, 2, 8, 8],
+    [1, 1, 6, 10, 18, 20, 18, 10, 2, 7, 7],
     // All shrinks.
-    [1, 1, 2, 24, 2, 8, 40, 2, 14, 3, 3],
+    [1, 1, 2, 24, 2, 8, 40, 2, 12, 4, 4],
 ];
 
 // Draws which call is made, as the weights of its phase are.

@@ -26,8 +26,9 @@ fn interface(random: &mut Random) -> u32 {
     random.word() % MAX_INTERFACES
 }
 
-fn decision(random: &mut Random) -> Decision {
-    if random.once_in(3) {
+// Discard once in so many times.
+fn decision(random: &mut Random, times: usize) -> Decision {
+    if random.once_in(times) {
         Decision::Discard
     } else {
         Decision::Accept
@@ -42,7 +43,7 @@ impl<A: Kind, R: Kind> Draw<'_, A, R> {
             Name::Branch => self.branch(random),
             Name::Give => self.give(random),
             Name::Take => Call::Take {
-                block: random.number(self.tree.blocks.len()),
+                block: self.block_to_take(random),
             },
             Name::Place => self.place(random),
             Name::Alter => self.alter(random),
@@ -72,7 +73,7 @@ impl<A: Kind, R: Kind> Draw<'_, A, R> {
             domain,
             upper: interface(random),
             lower: interface(random),
-            decision: decision(random),
+            decision: decision(random, 6),
         }
     }
 
@@ -106,6 +107,18 @@ impl<A: Kind, R: Kind> Draw<'_, A, R> {
                 Some(single) => single,
                 None => pool.inside(random),
             },
+        }
+    }
+
+    // Often one of several addresses, so that there is room for more blocks.
+    fn block_to_take(&self, random: &mut Random) -> usize {
+        let blocks = &self.tree.blocks;
+        let wide = blocks
+            .iter()
+            .position(|block| block.addresses.count_ones() > 1);
+        match wide {
+            Some(block) if random.once_in(2) => block,
+            _ => random.number(blocks.len()),
         }
     }
 

@@ -31,7 +31,7 @@ impl<A: Kind, R: Kind> Draw<'_, A, R> {
             source: self.form.addresses.any(random),
             destination: self.form.addresses.any(random),
             rest: self.form.rests.any(random),
-            decision: decision(random),
+            decision: decision(random, 3),
         }
     }
 

@@ -1,6 +1,7 @@
 // Numbers that look random, the same in each run.
 ghost use Rattle.std.specs.Prelude.{◌<◌};
 
+use judge::Values;
 use rand_core::Rng;
 use rand_pcg::Pcg32;
 
@@ -39,6 +40,12 @@ impl Random {
         } else {
             self.below(count)
         }
+    }
+
+    // One of the values of a set, if there are any.
+    pub fn value(&mut self, set: u128) -> Option<u128> {
+        let place = self.below(set.count_ones() as usize);
+        Values(set).nth(place)
     }
 
     // One of the items, if there are any.

@@ -1,0 +1,39 @@
+// The two packet forms, in wholes so small that all their values can be gone over: 128 addresses, as many
+// as there may be blocks, and four rests.
+use crate::addresses::{ADDRESSES, all_addresses, prefixes, ranges};
+use crate::pool::Pool;
+use crate::rests::{flat_rests, long_rests};
+use kinds::{FlatRest, Kind, LongRest, Prefix, Range};
+use std::alloc::{AllocError, Global};
+
+#[derive(Drop)]
+pub struct Form<A: Kind, R: Kind> {
+    pub name: &'static str,
+    pub addresses: Pool<A>,
+    pub rests: Pool<R>,
+}
+
+// Prefixes of 0.0.0.0/25.
+pub fn long(heap: Global) -> Result<Form<Prefix, LongRest>, AllocError> {
+    let values = all_addresses(heap)?;
+    let regions = prefixes(heap)?;
+    // The shortest comes first.
+    let whole = regions.first().copied().unwrap_or_else(|| Prefix::all());
+    Ok(Form {
+        name: "long",
+        addresses: Pool::new(heap, whole, &values, &regions)?,
+        rests: long_rests(heap)?,
+    })
+}
+
+// Ranges of 0 to 127.
+pub fn flat(heap: Global) -> Result<Form<Range, FlatRest>, AllocError> {
+    let values = all_addresses(heap)?;
+    let regions = ranges(heap)?;
+    let whole = Range::up_to(ADDRESSES - 1);
+    Ok(Form {
+        name: "flat",
+        addresses: Pool::new(heap, whole, &values, &regions)?,
+        rests: flat_rests(heap)?,
+    })
+}

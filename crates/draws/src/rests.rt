@@ -1,0 +1,69 @@
+// The rests of both forms, and regions of them: those of the whole, and some others.
+use crate::pool::Pool;
+use kinds::{FlatRest, LongRest, Pair, Range, Set};
+use std::alloc::{AllocError, Global};
+
+// The ranges of 0 and 1, and one of 1 and 2.
+fn small_ranges(heap: Global) -> Result<Vec<Range>, AllocError> {
+    [(0, 0), (1, 1), (0, 1), (1, 2)]
+        .iter()
+        .filter_map(|(lo, hi)| Range::new(*lo, *hi))
+        .collect(heap)
+}
+
+// Source port, destination port and protocol, or regions of them.
+fn long_rest<T>(from: T, to: T, protocol: T) -> Pair<T, Pair<T, T>> {
+    Pair {
+        left: from,
+        right: Pair {
+            left: to,
+            right: protocol,
+        },
+    }
+}
+
+// Source ports 0 and 1, destination port 0, protocols 0 and 1.
+pub fn long_rests(heap: Global) -> Result<Pool<LongRest>, AllocError> {
+    let whole = long_rest(Range::up_to(1), Range::up_to(0), Range::up_to(1));
+    let mut values = Vec::new(heap);
+    for from in 0..3 {
+        for to in 0..2 {
+            for protocol in 0..3 {
+                values.push(long_rest(from, to, protocol))?;
+            }
+        }
+    }
+    let small = small_ranges(heap)?;
+    let mut regions = Vec::new(heap);
+    for from in &small {
+        for to in [Range::up_to(0), Range::up_to(1)] {
+            for protocol in &small {
+                regions.push(long_rest(*from, to, *protocol))?;
+            }
+        }
+    }
+    Pool::new(heap, whole, &values, &regions)
+}
+
+// Numbers 0 and 1, and flags 0 and 1.
+pub fn flat_rests(heap: Global) -> Result<Pool<FlatRest>, AllocError> {
+    let whole = Pair {
+        left: Range::up_to(1),
+        right: Set::up_to(1),
+    };
+    let mut values = Vec::new(heap);
+    for left in 0..3 {
+        for right in 0..3 {
+            values.push(Pair { left, right })?;
+        }
+    }
+    let mut regions = Vec::new(heap);
+    for left in &small_ranges(heap)? {
+        for mask in [1, 2, 3, 4, 6] {
+            if let Some(right) = Set::new(mask) {
+                regions.push(Pair { left: *left, right })?;
+            }
+        }
+    }
+    Pool::new(heap, whole, &values, &regions)
+}
