@@ -37,6 +37,13 @@ pub fn prefixes(heap: Global) -> Result<Vec<Prefix>, AllocError> {
     Ok(prefixes)
 }
 
+// The ranges with these ends.
+pub fn ranges_of(heap: Global, ends: &[(u32, u32)]) -> Result<Vec<Range>, AllocError> {
+    ends.iter()
+        .filter_map(|(lo, hi)| Range::new(*lo, *hi))
+        .collect(heap)
+}
+
 // Ranges of up to 31 of the 128 addresses, and others.
 pub fn ranges(heap: Global) -> Result<Vec<Range>, AllocError> {
     let mut ends = Vec::new(heap);
@@ -52,8 +59,8 @@ pub fn ranges(heap: Global) -> Result<Vec<Range>, AllocError> {
         (500, u32::MAX),
         (0, u32::MAX),
     ];
-    ends.iter()
-        .chain(others.iter())
-        .filter_map(|(lo, hi)| Range::new(*lo, *hi))
-        .collect(heap)
+    for other in others {
+        ends.push(other)?;
+    }
+    ranges_of(heap, &ends)
 }

@@ -19,8 +19,10 @@ pub fn draw_lent(random: &mut Random) -> Lent {
     let more = random.below(MORE + 1);
     let mut lent = Lent {
         rules: ASKED.rules + more,
+        blocks: ASKED.blocks + more,
+        properties: ASKED.properties + more,
         packet_frames: ASKED.packet_frames + more,
-        ..ASKED
+        address_frames: ASKED.address_frames + more,
     };
     if random.once_in(50) {
         match random.below(5) {

@@ -1,15 +1,11 @@
 // The rests of both forms, and regions of them: those of the whole, and some others.
+use crate::addresses::ranges_of;
 use crate::pool::Pool;
 use kinds::{FlatRest, LongRest, Pair, Range, Set};
 use std::alloc::{AllocError, Global};
 
-// The ranges of 0 and 1, and one of 1 and 2.
-fn small_ranges(heap: Global) -> Result<Vec<Range>, AllocError> {
-    [(0, 0), (1, 1), (0, 1), (1, 2)]
-        .iter()
-        .filter_map(|(lo, hi)| Range::new(*lo, *hi))
-        .collect(heap)
-}
+// The ranges of 0 and 1, and one of 1 and 2, by their ends.
+const SMALL: [(u32, u32); 4] = [(0, 0), (1, 1), (0, 1), (1, 2)];
 
 // Source port, destination port and protocol, or regions of them.
 fn long_rest<T>(from: T, to: T, protocol: T) -> Pair<T, Pair<T, T>> {
@@ -33,7 +29,7 @@ pub fn long_rests(heap: Global) -> Result<Pool<LongRest>, AllocError> {
             }
         }
     }
-    let small = small_ranges(heap)?;
+    let small = ranges_of(heap, &SMALL)?;
     let mut regions = Vec::new(heap);
     for from in &small {
         for to in [Range::up_to(0), Range::up_to(1)] {
@@ -58,7 +54,7 @@ pub fn flat_rests(heap: Global) -> Result<Pool<FlatRest>, AllocError> {
         }
     }
     let mut regions = Vec::new(heap);
-    for left in &small_ranges(heap)? {
+    for left in &ranges_of(heap, &SMALL)? {
         for mask in [1, 2, 3, 4, 6] {
             if let Some(right) = Set::new(mask) {
                 regions.push(Pair { left: *left, right })?;

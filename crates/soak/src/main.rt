@@ -3,6 +3,7 @@
 
 mod rows;
 mod run;
+mod sizes;
 mod store;
 mod tables;
 mod tally;
@@ -42,7 +43,7 @@ fn soak<A: RowKind, R: RowKind>(
     calls: usize,
 ) -> anyhow::Result<()> {
     let name = form.name;
-    let tally = run(heap, form, seed, calls).context(name)?;
+    let tally = run(heap, form, seed, calls)?;
     tally.print(rt, name)?;
     if calls < CALLS {
         println!(rt; "{name}: {calls} calls, all answers right")?;

@@ -43,7 +43,7 @@ impl Judging {
         );
         ensure!(
             judged.is_met(answer, &after),
-            "{name:?} answered {answered:?}, as expected, but what it shows does not prove it"
+            "{name:?} answered {answered:?}, but what it shows does not prove it"
         );
         if answered.refusal().is_none() {
             self.tree = after;
@@ -107,10 +107,11 @@ pub fn run<A: RowKind, R: RowKind>(
         tally: Tally::new(),
     };
     let mut store = Store::new(heap, form, &mut judging.random)?;
+    let name = form.name;
     for number in 0..calls {
         let call = number.saturating_add(1);
         step(form, &mut register, &mut store, &mut judging, number).context(format_args!(
-            "call {call} is answered wrong"
+            "{name}, call {call}"
         ))?;
     }
     Ok(judging.tally)

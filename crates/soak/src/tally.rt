@@ -1,18 +1,8 @@
 // What was called and answered, counted.
+use crate::sizes::{LIMITS, Sizes};
 use draws::{NAMES, Name};
 use judge::{Fixed, PlainTree};
-use model::{MAX_BLOCKS, MAX_DOMAINS, MAX_LIST, MAX_PROPERTIES, MAX_RULES};
 use std::io;
-
-// How large the tree became.
-#[derive(Clone, Copy, PartialEq, Default)]
-pub struct Sizes {
-    pub domains: usize,
-    pub blocks: usize,
-    pub properties: usize,
-    pub list: usize,
-    pub rules: usize,
-}
 
 #[derive(Clone, Copy, Default)]
 struct Calls {
@@ -34,33 +24,6 @@ pub struct Tally {
 // Counts one more.
 fn count(number: &mut u32) {
     *number = number.saturating_add(1);
-}
-
-impl Sizes {
-    pub fn of(tree: &PlainTree) -> Sizes {
-        let list = tree
-            .firewalls
-            .iter()
-            .fold(0, |most: usize, firewall| most.max(firewall.rules.len()));
-        Sizes {
-            domains: tree.domains.len(),
-            blocks: tree.blocks.len(),
-            properties: tree.properties.len(),
-            list,
-            rules: tree.rule_count(),
-        }
-    }
-
-    // The larger of each.
-    fn max(self, other: Sizes) -> Sizes {
-        Sizes {
-            domains: self.domains.max(other.domains),
-            blocks: self.blocks.max(other.blocks),
-            properties: self.properties.max(other.properties),
-            list: self.list.max(other.list),
-            rules: self.rules.max(other.rules),
-        }
-    }
 }
 
 impl Tally {
@@ -108,14 +71,7 @@ impl Tally {
 
     // Whether each limit was reached.
     pub fn reached_limits(&self) -> bool {
-        self.largest
-            == Sizes {
-                domains: MAX_DOMAINS,
-                blocks: MAX_BLOCKS,
-                properties: MAX_PROPERTIES,
-                list: MAX_LIST,
-                rules: MAX_RULES,
-            }
+        self.largest == LIMITS
     }
 
     pub fn print(&self, rt: &impl Eprint, form: &str) -> io::Result<()> {
@@ -139,15 +95,7 @@ impl Tally {
         eprintln!(rt;
             "\n{form}: kept {kept}, broken {broken}, passed {passed}, stopped {stopped}"
         )?;
-        let Sizes {
-            domains,
-            blocks,
-            properties,
-            list,
-            rules,
-        } = self.largest;
-        eprintln!(rt;
-            "{form}: at most {domains} domains, {blocks} blocks, {properties} properties, {list} rules in a list, {rules} in all"
-        )
+        let largest = self.largest;
+        eprintln!(rt; "{form}: at most {largest}")
     }
 }

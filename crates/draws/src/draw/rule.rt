@@ -16,6 +16,16 @@ fn interfaces(random: &mut Random) -> Set {
     drawn.unwrap_or_else(|| Set::up_to(31))
 }
 
+// The lower interfaces, or the upper: a list may be complete by two such rules.
+fn half(random: &mut Random) -> Set {
+    let mask = if random.once_in(2) {
+        0xffff
+    } else {
+        0xffff_0000
+    };
+    Set::new(mask).unwrap_or_else(|| Set::up_to(31))
+}
+
 impl<A: Kind, R: Kind> Draw<'_, A, R> {
     // Often the first firewall, so that its list grows long.
     fn firewall(&self, random: &mut Random) -> usize {
@@ -26,6 +36,9 @@ impl<A: Kind, R: Kind> Draw<'_, A, R> {
     }
 
     fn rule(&self, random: &mut Random) -> Rule<Known<A>, Known<R>> {
+        if random.once_in(6) {
+            return self.wide_rule(random);
+        }
         Rule {
             interfaces: interfaces(random),
             source: self.form.addresses.any(random),
@@ -33,6 +46,24 @@ impl<A: Kind, R: Kind> Draw<'_, A, R> {
             rest: self.form.rests.any(random),
             decision: decision(random, 3),
         }
+    }
+
+    // Matches every packet, but for one part.
+    fn wide_rule(&self, random: &mut Random) -> Rule<Known<A>, Known<R>> {
+        let mut rule = Rule {
+            interfaces: Set::up_to(31),
+            source: self.form.addresses.whole,
+            destination: self.form.addresses.whole,
+            rest: self.form.rests.whole,
+            decision: decision(random, 6),
+        };
+        match random.below(6) {
+            0 => rule.source = self.form.addresses.inside(random),
+            1 => rule.destination = self.form.addresses.inside(random),
+            2 | 3 => rule.rest = self.form.rests.inside(random),
+            _ => rule.interfaces = half(random),
+        }
+        rule
     }
 
     pub(crate) fn place(&self, random: &mut Random) -> DrawnOf<A, R> {
