@@ -1,11 +1,11 @@
 // Makes many calls on one register of each packet form, and holds each answer to the judge.
 #![tactic(auto)]
 
+mod kept;
 mod rows;
 mod run;
 mod sizes;
 mod store;
-mod tables;
 mod tally;
 
 use anyhow::{Context, bail, ensure};

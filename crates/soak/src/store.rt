@@ -1,5 +1,5 @@
 // The memory that lasts for a run, of which each call is lent a part.
-use crate::tables::Tables;
+use crate::kept::Tables;
 use checks::{PacketRow, PropertyRow, RuleRow, block_row, property_row, rule_row};
 use draws::{ASKED, Form, MORE, Random};
 use kinds::{Kind, Set};
