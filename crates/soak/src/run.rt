@@ -1,7 +1,7 @@
 // A run: calls drawn, made and judged one after another.
+use crate::kept::are_same_tables;
 use crate::rows::RowKind;
 use crate::store::Store;
-use crate::kept::are_same_tables;
 use crate::tally::Tally;
 use anyhow::{Context, ensure};
 use draws::{Draw, Form, Name, Random, draw_lent, draw_name, plain, typed};
