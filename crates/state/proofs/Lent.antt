@@ -31,4 +31,4 @@ short_or_enough l = elim (cases_lt l.rules max_rules) [
 ]
 
 pub lent_enough : (l : Lent) → (IsTooShort l → ⊥) → Enough l
-lent_enough l long = elim (short_or_enough l) [ | inl short ↦ absurd (long short) | inr enough ↦ enough ]
+lent_enough l long = elim (short_or_enough l) [ inl short ↦ absurd (long short) | inr enough ↦ enough ]
