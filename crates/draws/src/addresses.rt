@@ -8,7 +8,7 @@ pub const ADDRESSES: u32 = 128;
 // A prefix of the 128 addresses has at least so many bits.
 const FEWEST_BITS: u8 = 25;
 
-pub fn all_addresses(heap: Global) -> Result<Vec<u32>, AllocError> {
+pub(crate) fn all_addresses(heap: Global) -> Result<Vec<u32>, AllocError> {
     let others = [128, 255, 500, 1000, 0x0a00_0000, u32::MAX];
     (0..ADDRESSES).chain(others.iter().copied()).collect(heap)
 }
@@ -21,7 +21,7 @@ fn add_prefix(prefixes: &mut Vec<Prefix>, address: u32, length: u8) -> Result<()
 }
 
 // Every prefix of the 128 addresses, the shortest first, and others.
-pub fn prefixes(heap: Global) -> Result<Vec<Prefix>, AllocError> {
+pub(crate) fn prefixes(heap: Global) -> Result<Vec<Prefix>, AllocError> {
     let mut prefixes = Vec::new(heap);
     for more in 0..8u8 {
         for number in 0..ADDRESSES {
@@ -38,14 +38,14 @@ pub fn prefixes(heap: Global) -> Result<Vec<Prefix>, AllocError> {
 }
 
 // The ranges with these ends.
-pub fn ranges_of(heap: Global, ends: &[(u32, u32)]) -> Result<Vec<Range>, AllocError> {
+pub(crate) fn ranges_of(heap: Global, ends: &[(u32, u32)]) -> Result<Vec<Range>, AllocError> {
     ends.iter()
         .filter_map(|(lo, hi)| Range::new(*lo, *hi))
         .collect(heap)
 }
 
 // Ranges of up to 31 of the 128 addresses, and others.
-pub fn ranges(heap: Global) -> Result<Vec<Range>, AllocError> {
+pub(crate) fn ranges(heap: Global) -> Result<Vec<Range>, AllocError> {
     let mut ends = Vec::new(heap);
     for lo in 0..ADDRESSES {
         for more in [0, 0, 1, 2, 4, 7, 30u32] {

@@ -81,7 +81,7 @@ impl<K: Kind> Pool<K> {
     }
 
     // Some region inside the whole, mostly a small one.
-    pub fn inside(&self, random: &mut Random) -> Known<K> {
+    pub(crate) fn inside(&self, random: &mut Random) -> Known<K> {
         random.pick(&self.inside).unwrap_or(self.whole)
     }
 
@@ -97,7 +97,7 @@ impl<K: Kind> Pool<K> {
     }
 
     // Some value of the whole, now and then one outside.
-    pub fn member(&self, random: &mut Random) -> Option<Member<K::Value>> {
+    pub(crate) fn member(&self, random: &mut Random) -> Option<Member<K::Value>> {
         if random.once_in(48) {
             return random.pick(&self.values);
         }
@@ -109,7 +109,7 @@ impl<K: Kind> Pool<K> {
     }
 
     // The region of one value of a set; nothing where the set is empty.
-    pub fn single(&self, random: &mut Random, set: u128) -> Option<Known<K>> {
+    pub(crate) fn single(&self, random: &mut Random, set: u128) -> Option<Known<K>> {
         let wanted = random.value(set)?;
         self.inside
             .iter()
@@ -118,7 +118,7 @@ impl<K: Kind> Pool<K> {
     }
 
     // A region inside a set; any where the set is empty.
-    pub fn within(&self, random: &mut Random, set: u128) -> Known<K> {
+    pub(crate) fn within(&self, random: &mut Random, set: u128) -> Known<K> {
         let wide = self.inside(random);
         if wide.plain.values & !set == 0 {
             return wide;
@@ -127,7 +127,7 @@ impl<K: Kind> Pool<K> {
     }
 
     // The set of one value, of those of the whole; empty for any other.
-    pub fn set_of(&self, shown: K::Value) -> u128 {
+    pub(crate) fn set_of(&self, shown: K::Value) -> u128 {
         self.inside
             .iter()
             .find(|known| known.plain.values.count_ones() == 1 && known.typed.has(shown))

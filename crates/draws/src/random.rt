@@ -16,7 +16,7 @@ impl Random {
     }
 
     // Any 32 bits.
-    pub fn word(&mut self) -> u32 {
+    pub(crate) fn word(&mut self) -> u32 {
         self.0.next_u32()
     }
 
@@ -29,12 +29,12 @@ impl Random {
     }
 
     // Yes once in so many times.
-    pub fn once_in(&mut self, times: usize) -> bool {
+    pub(crate) fn once_in(&mut self, times: usize) -> bool {
         self.below(times) == 0
     }
 
     // A number below the count, now and then the one just past the edge.
-    pub fn number(&mut self, count: usize) -> usize {
+    pub(crate) fn number(&mut self, count: usize) -> usize {
         if self.once_in(32) {
             count
         } else {
@@ -43,13 +43,13 @@ impl Random {
     }
 
     // One of the values of a set, if there are any.
-    pub fn value(&mut self, set: u128) -> Option<u128> {
+    pub(crate) fn value(&mut self, set: u128) -> Option<u128> {
         let place = self.below(set.count_ones() as usize);
         Values(set).nth(place)
     }
 
     // One of the items, if there are any.
-    pub fn pick<T: Copy>(&mut self, items: &[T]) -> Option<T> {
+    pub(crate) fn pick<T: Copy>(&mut self, items: &[T]) -> Option<T> {
         let at = self.below(items.len());
         items.get(at).copied()
     }

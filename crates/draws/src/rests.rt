@@ -19,7 +19,7 @@ fn long_rest<T>(from: T, to: T, protocol: T) -> Pair<T, Pair<T, T>> {
 }
 
 // Source ports 0 and 1, destination port 0, protocols 0 and 1.
-pub fn long_rests(heap: Global) -> Result<Pool<LongRest>, AllocError> {
+pub(crate) fn long_rests(heap: Global) -> Result<Pool<LongRest>, AllocError> {
     let whole = long_rest(Range::up_to(1), Range::up_to(0), Range::up_to(1));
     let mut values = Vec::new(heap);
     for from in 0..3 {
@@ -42,7 +42,7 @@ pub fn long_rests(heap: Global) -> Result<Pool<LongRest>, AllocError> {
 }
 
 // Numbers 0 and 1, and flags 0 and 1.
-pub fn flat_rests(heap: Global) -> Result<Pool<FlatRest>, AllocError> {
+pub(crate) fn flat_rests(heap: Global) -> Result<Pool<FlatRest>, AllocError> {
     let whole = Pair {
         left: Range::up_to(1),
         right: Set::up_to(1),

@@ -124,7 +124,7 @@ impl Fixed {
 
 impl Judged {
     // An answer that shows nothing.
-    pub fn plain(fixed: Fixed) -> Judged {
+    pub(crate) fn plain(fixed: Fixed) -> Judged {
         Judged {
             fixed,
             proof: Proof::Nothing,
@@ -132,7 +132,7 @@ impl Judged {
     }
 
     // A refusal that shows one of these addresses.
-    pub fn astray(number: u8, addresses: u128) -> Judged {
+    pub(crate) fn astray(number: u8, addresses: u128) -> Judged {
         Judged {
             fixed: Fixed::Refused { number },
             proof: Proof::Address(addresses),

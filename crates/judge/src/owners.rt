@@ -36,7 +36,7 @@ impl PlainTree {
 
     // The addresses of an accept property's source that are not of its first domain. The source of
     // discard is free.
-    pub fn source_astray(&self, property: &PlainProperty) -> u128 {
+    pub(crate) fn source_astray(&self, property: &PlainProperty) -> u128 {
         match property.sort {
             Decision::Accept => property.source & !self.addresses_of(property.from),
             Decision::Discard => 0,
@@ -44,13 +44,13 @@ impl PlainTree {
     }
 
     // The addresses of its destination that are not of its second domain.
-    pub fn destination_astray(&self, property: &PlainProperty) -> u128 {
+    pub(crate) fn destination_astray(&self, property: &PlainProperty) -> u128 {
         property.destination & !self.addresses_of(property.to)
     }
 
     // What refusal 11 may show of a property: an address of its source that goes astray or, if none does,
     // one of its destination.
-    pub fn astray(&self, property: &PlainProperty) -> u128 {
+    pub(crate) fn astray(&self, property: &PlainProperty) -> u128 {
         let source = self.source_astray(property);
         if source != 0 {
             source
@@ -66,7 +66,7 @@ impl PlainTree {
     }
 
     // Whether a property's domains are equal or, for discard, joined to no common firewall.
-    pub fn is_misjoined(&self, property: &PlainProperty) -> bool {
+    pub(crate) fn is_misjoined(&self, property: &PlainProperty) -> bool {
         property.from == property.to
             || property.sort == Decision::Discard
                 && !self.are_neighbours(property.from, property.to)

@@ -37,7 +37,7 @@ fn follow(rules: &[PlainRule], lane: Lane, destinations: u128) -> Fates {
 }
 
 // The first rule that matches a packet, and its decision.
-pub fn decided(rules: &[PlainRule], packet: PlainPacket) -> Option<(usize, Decision)> {
+pub(crate) fn decided(rules: &[PlainRule], packet: PlainPacket) -> Option<(usize, Decision)> {
     rules
         .iter()
         .enumerate()
@@ -47,7 +47,7 @@ pub fn decided(rules: &[PlainRule], packet: PlainPacket) -> Option<(usize, Decis
 
 impl PlainTree {
     // Whether the list leaves some packet of the whole unmatched.
-    pub fn is_incomplete(&self, rules: &[PlainRule]) -> bool {
+    pub(crate) fn is_incomplete(&self, rules: &[PlainRule]) -> bool {
         for interface in Values(ALL_INTERFACES) {
             for source in Values(self.wholes.addresses) {
                 for rest in Values(self.wholes.rests) {
@@ -66,7 +66,7 @@ impl PlainTree {
     }
 
     // Whether this packet of the whole is unmatched in the list.
-    pub fn leaves_unmatched(&self, rules: &[PlainRule], packet: PlainPacket) -> bool {
+    pub(crate) fn leaves_unmatched(&self, rules: &[PlainRule], packet: PlainPacket) -> bool {
         packet.lane.interface & ALL_INTERFACES != 0
             && packet.lane.source & self.wholes.addresses != 0
             && packet.destination & self.wholes.addresses != 0
@@ -75,7 +75,7 @@ impl PlainTree {
     }
 
     // Whether some packet breaks the property at the firewall, entered so.
-    pub fn breaks_at(&self, property: &PlainProperty, entered: Entered) -> bool {
+    pub(crate) fn breaks_at(&self, property: &PlainProperty, entered: Entered) -> bool {
         let rules = self.rules(entered.firewall);
         for source in Values(property.source) {
             for rest in Values(property.rest) {
@@ -98,7 +98,7 @@ impl PlainTree {
     }
 
     // Whether this packet does.
-    pub fn is_broken_by(
+    pub(crate) fn is_broken_by(
         &self,
         property: &PlainProperty,
         entered: Entered,

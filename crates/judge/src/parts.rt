@@ -33,7 +33,7 @@ pub struct PlainPacket {
 }
 
 impl PlainPacket {
-    pub fn new(packet: Packet<u128, u128>) -> PlainPacket {
+    pub(crate) fn new(packet: Packet<u128, u128>) -> PlainPacket {
         PlainPacket {
             lane: Lane {
                 interface: value(u32::from(packet.interface)),
@@ -64,7 +64,7 @@ fn plain_interfaces(set: Set) -> u128 {
 pub const ALL_INTERFACES: u128 = (1 << MAX_INTERFACES) - 1;
 
 impl PlainRule {
-    pub fn new(rule: Rule<Region, Region>) -> PlainRule {
+    pub(crate) fn new(rule: Rule<Region, Region>) -> PlainRule {
         PlainRule {
             interfaces: plain_interfaces(rule.interfaces),
             source: rule.source.values,
@@ -75,18 +75,18 @@ impl PlainRule {
     }
 
     // Whether it matches packets of the lane, to its destinations.
-    pub fn takes(&self, lane: Lane) -> bool {
+    pub(crate) fn takes(&self, lane: Lane) -> bool {
         self.interfaces & lane.interface != 0
             && self.source & lane.source != 0
             && self.rest & lane.rest != 0
     }
 
-    pub fn matches(&self, packet: PlainPacket) -> bool {
+    pub(crate) fn matches(&self, packet: PlainPacket) -> bool {
         self.takes(packet.lane) && self.destination & packet.destination != 0
     }
 }
 
-pub fn plain_property(property: Property<Region, Region>) -> PlainProperty {
+pub(crate) fn plain_property(property: Property<Region, Region>) -> PlainProperty {
     Property {
         sort: property.sort,
         from: property.from,

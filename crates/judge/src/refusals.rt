@@ -37,7 +37,7 @@ fn is_outside(call: PlainCall) -> bool {
 
 impl PlainTree {
     // The number of the first of these lines that applies.
-    pub fn early_refusal(&self, call: PlainCall, lent: Lent) -> Option<u8> {
+    pub(crate) fn early_refusal(&self, call: PlainCall, lent: Lent) -> Option<u8> {
         if is_too_short(lent) {
             Some(1)
         } else if self.names_no_such(call) {

@@ -50,7 +50,12 @@ impl PlainTree {
     }
 
     // The firewalls on the route from one domain to another.
-    pub fn route(&self, heap: Global, from: usize, to: usize) -> Result<Vec<Entered>, AllocError> {
+    pub(crate) fn route(
+        &self,
+        heap: Global,
+        from: usize,
+        to: usize,
+    ) -> Result<Vec<Entered>, AllocError> {
         let up = self.climb(heap, from)?;
         let down = self.climb(heap, to)?;
         let shared = up

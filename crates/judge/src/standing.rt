@@ -6,7 +6,7 @@ use std::alloc::{AllocError, Global};
 
 impl PlainTree {
     // The first firewall on the route of a property at which some packet breaks it.
-    pub fn first_break(
+    pub(crate) fn first_break(
         &self,
         heap: Global,
         property: &PlainProperty,
@@ -21,7 +21,10 @@ impl PlainTree {
     }
 
     // The first standing property that some packet breaks, with where it does first.
-    pub fn first_broken(&self, heap: Global) -> Result<Option<(usize, Entered)>, AllocError> {
+    pub(crate) fn first_broken(
+        &self,
+        heap: Global,
+    ) -> Result<Option<(usize, Entered)>, AllocError> {
         for (number, property) in self.properties.iter().enumerate() {
             if let Some(entered) = self.first_break(heap, property)? {
                 return Ok(Some((number, entered)));
@@ -31,7 +34,7 @@ impl PlainTree {
     }
 
     // The first standing property with an address astray, and those addresses.
-    pub fn first_misplaced(&self) -> Option<(usize, u128)> {
+    pub(crate) fn first_misplaced(&self) -> Option<(usize, u128)> {
         self.properties
             .iter()
             .map(|property| self.astray(property))

@@ -69,7 +69,7 @@ impl PlainTree {
     }
 
     // Where a domain lies, if it is there and is not domain 0.
-    pub fn joint(&self, domain: usize) -> Option<Joint> {
+    pub(crate) fn joint(&self, domain: usize) -> Option<Joint> {
         *self.domains.get(domain)?
     }
 
@@ -84,7 +84,7 @@ impl PlainTree {
     }
 
     // Whether a domain is joined to the firewall by this interface.
-    pub fn in_use(&self, firewall: usize, interface: u32) -> bool {
+    pub(crate) fn in_use(&self, firewall: usize, interface: u32) -> bool {
         self.firewalls
             .get(firewall)
             .is_some_and(|found| found.upper == interface)
