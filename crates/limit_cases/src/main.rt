@@ -12,36 +12,56 @@ use anyhow::ensure;
 use kinds::{
     FlatRest, Kind, LongRest, Prefix, Range, flat_addresses, flat_rest, long_addresses, long_rest,
 };
-use limits::run_all;
+use limits::{Limits, run_all};
 use numbered::Numbered;
 use session::{Manner, Session};
+use std::alloc::Global;
 
-// All runs in one packet form, in each manner.
+// What came of all runs in one packet form, in one manner.
+#[derive(Drop)]
+struct Outcome {
+    limits: Limits,
+    short_calls: u32,
+    log: Vec<u32>,
+}
+
+fn run<A: Kind + Numbered, R: Kind + Numbered>(
+    alloc: Global,
+    addresses: A,
+    rests: R,
+    manner: Manner,
+) -> anyhow::Result<Outcome> {
+    let mut session = Session::new(alloc, addresses, rests, manner)?;
+    let limits = run_all(&mut session)?;
+    Ok(Outcome {
+        limits,
+        short_calls: session.short_calls,
+        log: session.log,
+    })
+}
+
+// The runs in each manner answer the same.
 fn compare<A: Kind + Numbered, R: Kind + Numbered>(
     rt: &(impl Print + AllocGlobal),
     addresses: A,
     rests: R,
 ) -> anyhow::Result<()> {
-    let mut plain = Session::new(rt.alloc(), addresses, rests, Manner::Plain)?;
-    let limits = run_all(&mut plain)?;
+    let plain = run(rt.alloc(), addresses, rests, Manner::Plain)?;
+    let limits = plain.limits;
     println!(rt; "{limits}")?;
-    let mut junk = Session::new(rt.alloc(), addresses, rests, Manner::Junk)?;
-    run_all(&mut junk)?;
+    let junk = run(rt.alloc(), addresses, rests, Manner::Junk)?;
     ensure!(
         junk.log.as_slice() == plain.log.as_slice(),
-        "the answers depend on junk in the frames"
+        "the answers depend on the junk in the frames"
     );
     println!(rt; "other junk in the frames: the same answers")?;
-    let mut short = Session::new(rt.alloc(), addresses, rests, Manner::Short)?;
-    run_all(&mut short)?;
+    let short = run(rt.alloc(), addresses, rests, Manner::Short)?;
     ensure!(
         short.log.as_slice() == plain.log.as_slice(),
         "slices that were too short changed something"
     );
     let calls = short.short_calls;
-    println!(rt;
-        "a slice one row too short: {calls} calls get 1, and those after them the same answers"
-    )?;
+    println!(rt; "a slice one row too short: {calls} calls get 1, and those after them the same answers")?;
     Ok(())
 }
 
