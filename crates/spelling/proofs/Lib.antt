@@ -1,0 +1,6 @@
+pub mod Decimal
+pub mod Parts
+pub mod Digits
+pub mod Misfits
+pub mod Left
+pub mod Reading

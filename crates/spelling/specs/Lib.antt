@@ -1,0 +1,6 @@
+pub mod Misfit
+pub mod Faults
+pub mod Numbers
+pub mod Forms
+pub mod Meanings
+pub mod Reads
