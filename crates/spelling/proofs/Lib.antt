@@ -4,3 +4,5 @@ pub mod Digits
 pub mod Misfits
 pub mod Left
 pub mod Reading
+pub mod Hex
+pub mod Decisions

@@ -4,3 +4,4 @@ pub mod Numbers
 pub mod Forms
 pub mod Meanings
 pub mod Reads
+pub mod Letters

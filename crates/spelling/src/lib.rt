@@ -1,14 +1,18 @@
 // How the fields of a line of text spell numbers, addresses, prefixes, ranges and sets: read and written.
 #![tactic(auto)]
 
+mod decision;
 mod fault;
 mod form;
 mod number;
 mod read;
 mod scanning;
+mod sets;
 mod values;
 
+pub use decision::{NoDecision, read_decision};
 pub use fault::{Fault, NumberFault, Problem, RegionFault};
 pub use form::{ADDRESS, Mark, NUMBER, Numbers, PREFIX, RANGE};
 pub use read::{read_address, read_number, read_prefix, read_range};
 pub use scanning::scan;
+pub use sets::read_set;

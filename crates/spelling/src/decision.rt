@@ -1,0 +1,39 @@
+// Decisions as letters.
+ghost use Rattle.std.specs.Prelude.{◌≡◌, MatchOption};
+ghost use Rattle.model.specs.declared.rules.Decision.{Decision};
+ghost use Rattle.spelling.specs.Letters.{letter, ReadsDecision};
+
+use model::Decision;
+
+// The text is no decision: this is its first byte that cannot stand there.
+#[derive(Clone, Copy, Debug, PartialEq, Eq)]
+pub struct NoDecision {
+    pub byte: usize,
+}
+
+// The decision of a letter.
+fn decision_of(byte: u8) -> Option<Decision>
+    ensures { MatchOption result ((d : Decision) → byte ≡ letter d → ⊥) (λ d. byte ≡ letter d) }
+{
+    match byte {
+        b'a' => Some(Decision::Accept),
+        b'd' => Some(Decision::Discard),
+        _ => None,
+    }
+}
+
+// One letter: `a` accepts, `d` discards.
+pub fn read_decision(text: &[u8]) -> Result<Decision, NoDecision>
+    ensures { ReadsDecision text.now result }
+{
+    let Some((first, rest)) = text.split_first() else {
+        return Err(NoDecision { byte: 0 });
+    };
+    let Some(decision) = decision_of(*first) else {
+        return Err(NoDecision { byte: 0 });
+    };
+    if !rest.is_empty() {
+        return Err(NoDecision { byte: 1 });
+    }
+    Ok(decision)
+}

@@ -1,0 +1,52 @@
+// Sets as masks of eight hexadecimal digits.
+ghost use Rattle.std.specs.Prelude.{◌≡◌, MatchOption, MatchResult};
+ghost use Rattle.std.specs.Char.{digit_value};
+ghost use Rattle.std.specs.Str.Parse.{digits_value};
+ghost use Rattle.spelling.specs.Misfit.{Misfit};
+ghost use Rattle.spelling.specs.Letters.{IsHexDigit, IsMaskText, ReadsSet};
+ghost use Rattle.spelling.specs.declared.fault.Problem.TheVariants.{Region};
+ghost use Rattle.spelling.specs.declared.fault.RegionFault.TheVariants.{Unfit};
+
+use crate::fault::{Fault, RegionFault};
+use kinds::Set;
+
+const MASK_DIGITS: usize = 8;
+
+// The value of a hexadecimal digit.
+fn hex_value(byte: u8) -> Option<u8>
+    ensures { MatchOption result (IsHexDigit byte → ⊥) (λ d. IsHexDigit byte × (d ≡ digit_value byte)) }
+{
+    match byte {
+        b'0'..=b'9' => Some(byte - b'0'),
+        b'a'..=b'f' => Some(byte - b'a' + 10),
+        _ => None,
+    }
+}
+
+// The number that eight digits write, or the first byte that cannot stand there.
+fn scan_mask(text: &[u8]) -> Result<u32, Fault>
+    ensures { MatchResult result (λ m. IsMaskText text.now × (m ≡ digits_value 16 text.now)) (λ f. Misfit IsMaskText text.now f.byte × (f.problem ≡ Region Unfit)) }
+{
+    let mut mask = 0;
+    for (place, byte) in text.iter().enumerate() {
+        if place == MASK_DIGITS {
+            return Err(RegionFault::Unfit.at(place));
+        }
+        let Some(digit) = hex_value(*byte) else {
+            return Err(RegionFault::Unfit.at(place));
+        };
+        mask = mask * 16 + u32::from(digit);
+    }
+    if text.len() < MASK_DIGITS {
+        return Err(RegionFault::Unfit.at(text.len()));
+    }
+    Ok(mask)
+}
+
+// The set with the mask that eight hexadecimal digits write.
+pub fn read_set(text: &[u8]) -> Result<Set, Fault>
+    ensures { ReadsSet text.now result }
+{
+    let mask = scan_mask(text)?;
+    Set::new(mask).ok_or(RegionFault::Empty.at(0))
+}
