@@ -6,3 +6,4 @@ pub mod Left
 pub mod Reading
 pub mod Hex
 pub mod Decisions
+pub mod Writing

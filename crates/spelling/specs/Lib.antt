@@ -5,3 +5,4 @@ pub mod Forms
 pub mod Meanings
 pub mod Reads
 pub mod Letters
+pub mod Writes

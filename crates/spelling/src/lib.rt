@@ -9,6 +9,7 @@ mod read;
 mod scanning;
 mod sets;
 mod values;
+mod write;
 
 pub use decision::{NoDecision, read_decision};
 pub use fault::{Fault, NumberFault, Problem, RegionFault};
