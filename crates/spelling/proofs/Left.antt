@@ -21,7 +21,7 @@ use Rattle.spelling.proofs.Parts.{SameFirst, take_sum, same_head, same_some, fir
 use Rattle.spelling.proofs.Digits.{peel, longer, all_right, digit_first, digit_first_on, same_digit, digit_same, last_digit, eleventh}
 use Rattle.spelling.proofs.Misfits.{misfit_at}
 
-mark_no_digit : (m : Mark) → digit_value (mark_byte m) < 10 → ⊥
+pub mark_no_digit : (m : Mark) → digit_value (mark_byte m) < 10 → ⊥
 mark_no_digit Dot d = omega arith
 mark_no_digit Slash d = omega arith
 mark_no_digit Dash d = omega arith

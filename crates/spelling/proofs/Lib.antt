@@ -7,3 +7,4 @@ pub mod Reading
 pub mod Hex
 pub mod Decisions
 pub mod Writing
+pub mod Back

@@ -1,8 +1,12 @@
 -- What a writer writes, and that it is read back.
 use Rattle.std.specs.Prelude.{◌≡◌, ℕ, ◌+◌, ◌<◌, ◌≤◌, List, [], ◌∷◌, ◌++◌, length, take, drop, Ok, Err, Result, decimal}
+use Rattle.std.specs.Int.{w32, to_be_bytes}
+use Rattle.kinds.specs.declared.prefix.Prefix.{Prefix}
+use Rattle.kinds.specs.declared.range.Range.{Range}
 use Rattle.tables.specs.declared.full.Full.{Full}
 use Rattle.spelling.specs.Forms.{mark_byte}
 use Rattle.spelling.specs.declared.form.Mark.{Mark}
+use Rattle.spelling.specs.declared.form.TheConstants.{ADDRESS, PREFIX, RANGE}
 
 -- the text stands in the buffer from `at` on, up to `end`; what is before and behind is as it was
 pub record Wrote (old new : List ℕ) (at : ℕ) (text : List ℕ) (end : ℕ) : Type 0 where
@@ -27,6 +31,20 @@ marked_text (m ∷ marks) (n ∷ ns) = mark_byte m ∷ (decimal n ++ marked_text
 marked_text (m ∷ marks) [] = []
 marked_text [] ns = []
 
--- a number, and those behind marks
-abbrev pub form_text : List Mark → ℕ → List ℕ → List ℕ
-form_text marks n ns = decimal n ++ marked_text marks ns
+-- numbers with marks between them
+abbrev pub form_text : List Mark → List ℕ → List ℕ
+form_text marks (n ∷ ns) = decimal n ++ marked_text marks ns
+form_text marks [] = []
+
+abbrev pub address_text : ℕ → List ℕ
+address_text a = form_text ADDRESS (to_be_bytes w32 a)
+
+abbrev pub prefix_text : Prefix → List ℕ
+prefix_text x = form_text PREFIX (to_be_bytes w32 x.address ++ x.length ∷ [])
+
+abbrev pub range_text : Range → List ℕ
+range_text x = form_text RANGE (x.lo ∷ x.hi ∷ [])
+
+-- whoever reads the text gets x
+abbrev pub ReadsBack : {X E : Type 0} → (List ℕ → Result X E → Type 0) → List ℕ → X → Type 0
+ReadsBack {X} {E} reads text x = (r : Result X E) → reads text r → r ≡ Ok x

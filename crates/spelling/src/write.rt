@@ -1,9 +1,13 @@
 // The fields of a line, written.
-ghost use Rattle.std.specs.Prelude.{◌≡◌, [], ◌∷◌, decimal};
-ghost use Rattle.spelling.specs.Writes.{Puts, form_text};
+ghost use Rattle.std.specs.Prelude.{◌≡◌, ℕ, ◌≤◌, [], ◌∷◌, decimal};
+ghost use Rattle.std.specs.Int.{w32, to_be_bytes};
+ghost use Rattle.spelling.specs.Meanings.{NumberOf, AddressOf, PrefixOf, RangeOf};
+ghost use Rattle.spelling.specs.Reads.{ReadsForm};
+ghost use Rattle.spelling.specs.Writes.{Puts, ReadsBack, form_text, address_text, prefix_text, range_text};
 
-use crate::form::{Mark, Numbers};
+use crate::form::{ADDRESS, Mark, NUMBER, Numbers, PREFIX, RANGE};
 use itoa::Buffer;
+use kinds::{Prefix, Range};
 use tables::Full;
 
 // Writes some bytes from a place on; answers where they end. Where there is no room for them nothing
@@ -31,7 +35,7 @@ fn put_numbers<const N: usize>(
     marks: &[Mark; N],
     numbers: &Numbers<N>,
 ) -> Result<usize, Full>
-    ensures { Puts buf.old buf.new at (form_text marks.now numbers.now.first numbers.now.later) result }
+    ensures { Puts buf.old buf.new at (form_text marks.now (numbers.now.first ∷ numbers.now.later)) result }
 {
     let mut end = put_decimal(buf, at, numbers.first)?;
     for (place, mark) in marks.iter().enumerate() {
@@ -39,4 +43,57 @@ fn put_numbers<const N: usize>(
         end = put_decimal(buf, end, numbers.later[place])?;
     }
     Ok(end)
+}
+
+// Writes a number, without extra zeros.
+pub fn put_number(buf: &mut [u8], at: usize, number: u32) -> Result<usize, Full>
+    ensures written { Puts buf.old buf.new at (decimal number) result }
+    ensures back { (most : ℕ) → number ≤ most → ReadsBack (ReadsForm NUMBER (NumberOf most)) (decimal number) number }
+{
+    put_decimal(buf, at, u64::from(number))
+}
+
+// The four bytes of an address, the highest first.
+fn octets(address: u32) -> [u64; 4]
+    ensures { result ≡ to_be_bytes w32 address }
+{
+    address.to_be_bytes().map(u64::from)
+}
+
+// Writes the four bytes of an address.
+pub fn put_address(buf: &mut [u8], at: usize, address: u32) -> Result<usize, Full>
+    ensures written { Puts buf.old buf.new at (address_text address) result }
+    ensures back { ReadsBack (ReadsForm ADDRESS AddressOf) (address_text address) address }
+{
+    let [first, second, third, fourth] = octets(address);
+    let numbers = Numbers {
+        first,
+        later: [second, third, fourth],
+    };
+    put_numbers(buf, at, &ADDRESS, &numbers)
+}
+
+// Writes a prefix.
+pub fn put_prefix(buf: &mut [u8], at: usize, prefix: Prefix) -> Result<usize, Full>
+    ensures written { Puts buf.old buf.new at (prefix_text prefix) result }
+    ensures back { ReadsBack (ReadsForm PREFIX PrefixOf) (prefix_text prefix) prefix }
+{
+    let [first, second, third, fourth] = octets(prefix.address());
+    let numbers = Numbers {
+        first,
+        later: [second, third, fourth, u64::from(prefix.length())],
+    };
+    put_numbers(buf, at, &PREFIX, &numbers)
+}
+
+// Writes a range.
+pub fn put_range(buf: &mut [u8], at: usize, range: Range) -> Result<usize, Full>
+    ensures written { Puts buf.old buf.new at (range_text range) result }
+    ensures back { (most : ℕ) → range.hi ≤ most → ReadsBack (ReadsForm RANGE (RangeOf most)) (range_text range) range }
+{
+    let numbers = Numbers {
+        first: u64::from(range.lo()),
+        later: [u64::from(range.hi())],
+    };
+    put_numbers(buf, at, &RANGE, &numbers)
 }
