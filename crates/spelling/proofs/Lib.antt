@@ -8,3 +8,4 @@ pub mod Hex
 pub mod Decisions
 pub mod Writing
 pub mod Back
+pub mod LettersBack

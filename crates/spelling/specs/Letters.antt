@@ -1,5 +1,6 @@
 -- Sets and decisions as texts.
-use Rattle.std.specs.Prelude.{◌≡◌, ℕ, ◌≤◌, ◌⊎◌, List, [], ◌∷◌, length, Ok, Err, Result}
+use Rattle.std.specs.Prelude.{◌≡◌, ℕ, zero, suc, ◌/◌, ◌%◌, ◌^◌, ◌≤◌, ◌⊎◌, List, [], ◌∷◌, length, Ok, Err, Result}
+use Rattle.std.specs.Char.{digit_char}
 use Rattle.std.specs.List.{AllByRecursion}
 use Rattle.std.specs.Str.Parse.{digits_value}
 use Rattle.kinds.specs.declared.set.Set.{Set}
@@ -40,3 +41,14 @@ IsDecisionText text = (d : Decision) × (text ≡ letter d ∷ [])
 abbrev pub ReadsDecision : List ℕ → Result Decision NoDecision → Type 0
 ReadsDecision text (Ok d) = text ≡ letter d ∷ []
 ReadsDecision text (Err e) = Misfit IsDecisionText text e.byte
+
+-- the lowest k hexadecimal digits of m, the highest of them first
+abbrev pub hex_digits : ℕ → ℕ → List ℕ
+hex_digits zero m = []
+hex_digits (suc k) m = digit_char (m / 16 ^ k % 16) ∷ hex_digits k m
+
+abbrev pub set_text : Set → List ℕ
+set_text x = hex_digits 8 x.mask
+
+abbrev pub decision_text : Decision → List ℕ
+decision_text d = letter d ∷ []

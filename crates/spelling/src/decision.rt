@@ -1,9 +1,12 @@
 // Decisions as letters.
 ghost use Rattle.std.specs.Prelude.{◌≡◌, MatchOption};
 ghost use Rattle.model.specs.declared.rules.Decision.{Decision};
-ghost use Rattle.spelling.specs.Letters.{letter, ReadsDecision};
+ghost use Rattle.spelling.specs.Letters.{letter, decision_text, ReadsDecision};
+ghost use Rattle.spelling.specs.Writes.{Puts, ReadsBack};
 
+use crate::write::put_bytes;
 use model::Decision;
+use tables::Full;
 
 // The text is no decision: this is its first byte that cannot stand there.
 #[derive(Clone, Copy, Debug, PartialEq, Eq)]
@@ -36,4 +39,21 @@ pub fn read_decision(text: &[u8]) -> Result<Decision, NoDecision>
         return Err(NoDecision { byte: 1 });
     }
     Ok(decision)
+}
+
+fn letter_of(decision: Decision) -> u8
+    ensures { result ≡ letter decision }
+{
+    match decision {
+        Decision::Accept => b'a',
+        Decision::Discard => b'd',
+    }
+}
+
+// Writes the letter of a decision.
+pub fn put_decision(buf: &mut [u8], at: usize, decision: Decision) -> Result<usize, Full>
+    ensures written { Puts buf.old buf.new at (decision_text decision) result }
+    ensures back { ReadsBack ReadsDecision (decision_text decision) decision }
+{
+    put_bytes(buf, at, &[letter_of(decision)])
 }

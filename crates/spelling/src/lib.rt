@@ -11,10 +11,10 @@ mod sets;
 mod values;
 mod write;
 
-pub use decision::{NoDecision, read_decision};
+pub use decision::{NoDecision, put_decision, read_decision};
 pub use fault::{Fault, NumberFault, Problem, RegionFault};
 pub use form::{ADDRESS, Mark, NUMBER, Numbers, PREFIX, RANGE};
 pub use read::{read_address, read_number, read_prefix, read_range};
 pub use scanning::scan;
-pub use sets::read_set;
+pub use sets::{put_set, read_set};
 pub use write::{put_address, put_number, put_prefix, put_range};

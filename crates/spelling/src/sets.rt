@@ -1,14 +1,17 @@
 // Sets as masks of eight hexadecimal digits.
-ghost use Rattle.std.specs.Prelude.{◌≡◌, MatchOption, MatchResult};
-ghost use Rattle.std.specs.Char.{digit_value};
+ghost use Rattle.std.specs.Prelude.{◌≡◌, ◌%◌, MatchOption, MatchResult};
+ghost use Rattle.std.specs.Char.{digit_char, digit_value};
 ghost use Rattle.std.specs.Str.Parse.{digits_value};
 ghost use Rattle.spelling.specs.Misfit.{Misfit};
-ghost use Rattle.spelling.specs.Letters.{IsHexDigit, IsMaskText, ReadsSet};
+ghost use Rattle.spelling.specs.Letters.{IsHexDigit, IsMaskText, ReadsSet, hex_digits, set_text};
+ghost use Rattle.spelling.specs.Writes.{Puts, ReadsBack};
 ghost use Rattle.spelling.specs.declared.fault.Problem.TheVariants.{Region};
 ghost use Rattle.spelling.specs.declared.fault.RegionFault.TheVariants.{Unfit};
 
 use crate::fault::{Fault, RegionFault};
+use crate::write::put_bytes;
 use kinds::Set;
+use tables::Full;
 
 const MASK_DIGITS: usize = 8;
 
@@ -49,4 +52,39 @@ pub fn read_set(text: &[u8]) -> Result<Set, Fault>
 {
     let mask = scan_mask(text)?;
     Set::new(mask).ok_or(RegionFault::Empty.at(0))
+}
+
+// The byte of the lowest hexadecimal digit of a number.
+fn hex_byte(number: u32) -> u8
+    ensures { result ≡ digit_char (number % 16) }
+{
+    let digit = (number % 16) as u8;
+    if digit < 10 {
+        b'0' + digit
+    } else {
+        b'a' + (digit - 10)
+    }
+}
+
+fn hex_bytes(mask: u32) -> [u8; 8]
+    ensures { result ≡ hex_digits 8 mask }
+{
+    [
+        hex_byte(mask >> 28),
+        hex_byte(mask >> 24),
+        hex_byte(mask >> 20),
+        hex_byte(mask >> 16),
+        hex_byte(mask >> 12),
+        hex_byte(mask >> 8),
+        hex_byte(mask >> 4),
+        hex_byte(mask),
+    ]
+}
+
+// Writes the mask of a set.
+pub fn put_set(buf: &mut [u8], at: usize, set: Set) -> Result<usize, Full>
+    ensures written { Puts buf.old buf.new at (set_text set) result }
+    ensures back { ReadsBack ReadsSet (set_text set) set }
+{
+    put_bytes(buf, at, &hex_bytes(set.mask()))
 }
