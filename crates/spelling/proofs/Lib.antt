@@ -9,3 +9,4 @@ pub mod Decisions
 pub mod Writing
 pub mod Back
 pub mod LettersBack
+pub mod Once

@@ -46,3 +46,7 @@ Explains text i (Region Empty) = ⊥
 abbrev pub Scanned : {N : ℕ} → List Mark → List ℕ → Result (Numbers N) Fault → Type 0
 Scanned marks text (Ok n) = Spells marks (n.first ∷ n.later) text
 Scanned marks text (Err f) = Misfit (Spelled marks) text f.byte × Explains text f.byte f.problem
+
+-- x fits, and nothing else does
+abbrev pub Only : {X : Type 0} → (X → Type 0) → X → Type 0
+Only {X} fits x = fits x × ((y : X) → fits y → y ≡ x)

@@ -1,7 +1,7 @@
 // The numbers that a text spells in a form.
 ghost use Rattle.std.specs.Prelude.{◌≡◌, ◌≤◌, Some, length, slice_get, Decides};
 ghost use Rattle.spelling.specs.Numbers.{LeadsAt};
-ghost use Rattle.spelling.specs.Forms.{mark_byte, Scanned};
+ghost use Rattle.spelling.specs.Forms.{mark_byte, Only, Scanned};
 
 use crate::fault::{Fault, RegionFault};
 use crate::form::{Mark, Numbers};
@@ -24,7 +24,7 @@ fn stands_at(mark: Mark, text: &[u8], at: usize) -> bool
 
 // The numbers that the text spells in this form, or its first byte that cannot stand there.
 pub fn scan<const N: usize>(marks: &[Mark; N], text: &[u8]) -> Result<Numbers<N>, Fault>
-    ensures { Scanned marks.now text.now result }
+    ensures { Only (Scanned marks.now text.now) result }
 {
     let number = number_at(text, 0)?;
     let first = number.value;

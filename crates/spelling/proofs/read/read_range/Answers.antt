@@ -8,9 +8,9 @@ use Rattle.spelling.proofs.read.read_range.Goals as goal
 pub returns-in_err-scan : goal.returns-in_err-scan
 returns-in_err-scan c =
     let p = err_from_is_err_and c.from_residual.result c.from_residual.ensures.1 in
-    rw (p.1, p.2) (inl c.in_err-scan.ensures)
+    rw (p.1, p.2) (inl c.in_err-scan.ensures.0)
 
 pub returns : goal.returns
 returns c =
     let numbers = c.in_ok-scan.field-0 in
-    rw c.at.ensures (value_read RANGE (RangeOf c.args.most) c.args.text.now (numbers.first ∷ numbers.later) c.range.result c.in_ok-scan.ensures c.range.ensures)
+    rw c.at.ensures (value_read RANGE (RangeOf c.args.most) c.args.text.now (numbers.first ∷ numbers.later) c.range.result c.in_ok-scan.ensures.0 c.range.ensures)
