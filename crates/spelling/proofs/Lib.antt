@@ -9,4 +9,5 @@ pub mod Decisions
 pub mod Writing
 pub mod Back
 pub mod LettersBack
+pub mod Meant
 pub mod Once

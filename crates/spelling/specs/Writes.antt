@@ -44,7 +44,3 @@ prefix_text x = form_text PREFIX (to_be_bytes w32 x.address ++ x.length ∷ [])
 
 abbrev pub range_text : Range → List ℕ
 range_text x = form_text RANGE (x.lo ∷ x.hi ∷ [])
-
--- whoever reads the text gets x
-abbrev pub ReadsBack : {X E : Type 0} → (List ℕ → Result X E → Type 0) → List ℕ → X → Type 0
-ReadsBack {X} {E} reads text x = (r : Result X E) → reads text r → r ≡ Ok x

@@ -1,8 +1,9 @@
 // Decisions as letters.
 ghost use Rattle.std.specs.Prelude.{◌≡◌, MatchOption};
 ghost use Rattle.model.specs.declared.rules.Decision.{Decision};
+ghost use Rattle.spelling.specs.Forms.{Only};
 ghost use Rattle.spelling.specs.Letters.{letter, decision_text, ReadsDecision};
-ghost use Rattle.spelling.specs.Writes.{Puts, ReadsBack};
+ghost use Rattle.spelling.specs.Writes.{Puts};
 
 use crate::write::put_bytes;
 use model::Decision;
@@ -27,7 +28,7 @@ fn decision_of(byte: u8) -> Option<Decision>
 
 // One letter: `a` accepts, `d` discards.
 pub fn read_decision(text: &[u8]) -> Result<Decision, NoDecision>
-    ensures { ReadsDecision text.now result }
+    ensures { Only (ReadsDecision text.now) result }
 {
     let Some((first, rest)) = text.split_first() else {
         return Err(NoDecision { byte: 0 });
@@ -53,7 +54,7 @@ fn letter_of(decision: Decision) -> u8
 // Writes the letter of a decision.
 pub fn put_decision(buf: &mut [u8], at: usize, decision: Decision) -> Result<usize, Full>
     ensures written { Puts buf.old buf.new at (decision_text decision) result }
-    ensures back { ReadsBack ReadsDecision (decision_text decision) decision }
+    ensures back { ReadsDecision (decision_text decision) (Ok decision) }
 {
     put_bytes(buf, at, &[letter_of(decision)])
 }

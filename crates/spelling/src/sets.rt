@@ -3,8 +3,9 @@ ghost use Rattle.std.specs.Prelude.{◌≡◌, ◌%◌, MatchOption, MatchResult
 ghost use Rattle.std.specs.Char.{digit_char, digit_value};
 ghost use Rattle.std.specs.Str.Parse.{digits_value};
 ghost use Rattle.spelling.specs.Misfit.{Misfit};
+ghost use Rattle.spelling.specs.Forms.{Only};
 ghost use Rattle.spelling.specs.Letters.{IsHexDigit, IsMaskText, ReadsSet, hex_digits, set_text};
-ghost use Rattle.spelling.specs.Writes.{Puts, ReadsBack};
+ghost use Rattle.spelling.specs.Writes.{Puts};
 ghost use Rattle.spelling.specs.declared.fault.Problem.TheVariants.{Region};
 ghost use Rattle.spelling.specs.declared.fault.RegionFault.TheVariants.{Unfit};
 
@@ -48,7 +49,7 @@ fn scan_mask(text: &[u8]) -> Result<u32, Fault>
 
 // The set with the mask that eight hexadecimal digits write.
 pub fn read_set(text: &[u8]) -> Result<Set, Fault>
-    ensures { ReadsSet text.now result }
+    ensures { Only (ReadsSet text.now) result }
 {
     let mask = scan_mask(text)?;
     Set::new(mask).ok_or(RegionFault::Empty.at(0))
@@ -84,7 +85,7 @@ fn hex_bytes(mask: u32) -> [u8; 8]
 // Writes the mask of a set.
 pub fn put_set(buf: &mut [u8], at: usize, set: Set) -> Result<usize, Full>
     ensures written { Puts buf.old buf.new at (set_text set) result }
-    ensures back { ReadsBack ReadsSet (set_text set) set }
+    ensures back { ReadsSet (set_text set) (Ok set) }
 {
     put_bytes(buf, at, &hex_bytes(set.mask()))
 }

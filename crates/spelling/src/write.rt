@@ -3,7 +3,7 @@ ghost use Rattle.std.specs.Prelude.{◌≡◌, ℕ, ◌≤◌, [], ◌∷◌, de
 ghost use Rattle.std.specs.Int.{w32, to_be_bytes};
 ghost use Rattle.spelling.specs.Meanings.{NumberOf, AddressOf, PrefixOf, RangeOf};
 ghost use Rattle.spelling.specs.Reads.{ReadsForm};
-ghost use Rattle.spelling.specs.Writes.{Puts, ReadsBack, form_text, address_text, prefix_text, range_text};
+ghost use Rattle.spelling.specs.Writes.{Puts, form_text, address_text, prefix_text, range_text};
 
 use crate::form::{ADDRESS, Mark, NUMBER, Numbers, PREFIX, RANGE};
 use itoa::Buffer;
@@ -48,7 +48,7 @@ fn put_numbers<const N: usize>(
 // Writes a number, without extra zeros.
 pub fn put_number(buf: &mut [u8], at: usize, number: u32) -> Result<usize, Full>
     ensures written { Puts buf.old buf.new at (decimal number) result }
-    ensures back { (most : ℕ) → number ≤ most → ReadsBack (ReadsForm NUMBER (NumberOf most)) (decimal number) number }
+    ensures back { (most : ℕ) → number ≤ most → ReadsForm NUMBER (NumberOf most) (decimal number) (Ok number) }
 {
     put_decimal(buf, at, u64::from(number))
 }
@@ -63,7 +63,7 @@ fn octets(address: u32) -> [u64; 4]
 // Writes the four bytes of an address.
 pub fn put_address(buf: &mut [u8], at: usize, address: u32) -> Result<usize, Full>
     ensures written { Puts buf.old buf.new at (address_text address) result }
-    ensures back { ReadsBack (ReadsForm ADDRESS AddressOf) (address_text address) address }
+    ensures back { ReadsForm ADDRESS AddressOf (address_text address) (Ok address) }
 {
     let [first, second, third, fourth] = octets(address);
     let numbers = Numbers {
@@ -76,7 +76,7 @@ pub fn put_address(buf: &mut [u8], at: usize, address: u32) -> Result<usize, Ful
 // Writes a prefix.
 pub fn put_prefix(buf: &mut [u8], at: usize, prefix: Prefix) -> Result<usize, Full>
     ensures written { Puts buf.old buf.new at (prefix_text prefix) result }
-    ensures back { ReadsBack (ReadsForm PREFIX PrefixOf) (prefix_text prefix) prefix }
+    ensures back { ReadsForm PREFIX PrefixOf (prefix_text prefix) (Ok prefix) }
 {
     let [first, second, third, fourth] = octets(prefix.address());
     let numbers = Numbers {
@@ -89,7 +89,7 @@ pub fn put_prefix(buf: &mut [u8], at: usize, prefix: Prefix) -> Result<usize, Fu
 // Writes a range.
 pub fn put_range(buf: &mut [u8], at: usize, range: Range) -> Result<usize, Full>
     ensures written { Puts buf.old buf.new at (range_text range) result }
-    ensures back { (most : ℕ) → range.hi ≤ most → ReadsBack (ReadsForm RANGE (RangeOf most)) (range_text range) range }
+    ensures back { (most : ℕ) → range.hi ≤ most → ReadsForm RANGE (RangeOf most) (range_text range) (Ok range) }
 {
     let numbers = Numbers {
         first: u64::from(range.lo()),

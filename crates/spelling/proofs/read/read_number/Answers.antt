@@ -2,15 +2,17 @@ use Rattle.std.proofs.Common.{◌∷◌, inl}
 use Rattle.std.proofs.lemmas.Result.{err_from_is_err_and}
 use Rattle.spelling.specs.Meanings.{NumberOf}
 use Rattle.spelling.specs.declared.form.TheConstants.{NUMBER}
+use Rattle.spelling.proofs.Meant.{number_once}
+use Rattle.spelling.proofs.Once.{alone}
 use Rattle.spelling.proofs.Reading.{value_read}
 use Rattle.spelling.proofs.read.read_number.Goals as goal
 
 pub returns-in_err-scan : goal.returns-in_err-scan
 returns-in_err-scan c =
     let p = err_from_is_err_and c.from_residual.result c.from_residual.ensures.1 in
-    rw (p.1, p.2) (inl c.in_err-scan.ensures.0)
+    alone NUMBER (NumberOf c.args.most) (number_once c.args.most) c.args.text.now c.from_residual.result (rw (p.1, p.2) (inl c.in_err-scan.ensures.0))
 
 pub returns : goal.returns
 returns c =
     let numbers = c.in_ok-scan.field-0 in
-    rw c.at.ensures (value_read NUMBER (NumberOf c.args.most) c.args.text.now (numbers.first ∷ numbers.later) c.number.result c.in_ok-scan.ensures.0 c.number.ensures)
+    alone NUMBER (NumberOf c.args.most) (number_once c.args.most) c.args.text.now c.at.result (rw c.at.ensures (value_read NUMBER (NumberOf c.args.most) c.args.text.now (numbers.first ∷ numbers.later) c.number.result c.in_ok-scan.ensures.0 c.number.ensures))

@@ -2,15 +2,17 @@ use Rattle.std.proofs.Common.{◌∷◌, inl}
 use Rattle.std.proofs.lemmas.Result.{err_from_is_err_and}
 use Rattle.spelling.specs.Meanings.{PrefixOf}
 use Rattle.spelling.specs.declared.form.TheConstants.{PREFIX}
+use Rattle.spelling.proofs.Meant.{prefix_once}
+use Rattle.spelling.proofs.Once.{alone}
 use Rattle.spelling.proofs.Reading.{value_read}
 use Rattle.spelling.proofs.read.read_prefix.Goals as goal
 
 pub returns-in_err-scan : goal.returns-in_err-scan
 returns-in_err-scan c =
     let p = err_from_is_err_and c.from_residual.result c.from_residual.ensures.1 in
-    rw (p.1, p.2) (inl c.in_err-scan.ensures.0)
+    alone PREFIX PrefixOf prefix_once c.args.text.now c.from_residual.result (rw (p.1, p.2) (inl c.in_err-scan.ensures.0))
 
 pub returns : goal.returns
 returns c =
     let numbers = c.in_ok-scan.field-0 in
-    rw c.at.ensures (value_read PREFIX PrefixOf c.args.text.now (numbers.first ∷ numbers.later) c.prefix.result c.in_ok-scan.ensures.0 c.prefix.ensures)
+    alone PREFIX PrefixOf prefix_once c.args.text.now c.at.result (rw c.at.ensures (value_read PREFIX PrefixOf c.args.text.now (numbers.first ∷ numbers.later) c.prefix.result c.in_ok-scan.ensures.0 c.prefix.ensures))

@@ -5,14 +5,14 @@ use Rattle.std.proofs.lemmas.Result.{err_from_is_err_and}
 use Rattle.spelling.specs.Forms.{mark_byte, Spells}
 use Rattle.spelling.specs.declared.form.Mark.TheVariants.{Dot}
 use Rattle.spelling.proofs.Left.{AfterNumber, next_mark, no_mark, stored, at_start, number_read, number_fails, mark_read, mark_missing, all_read, more_than_all}
-use Rattle.spelling.proofs.Once.{alone}
+use Rattle.spelling.proofs.Once.{alone_scanned}
 use Rattle.spelling.proofs.scanning.scan.Goals as goal
 use Rattle.spelling.proofs.scanning.scan.Goals.{After-stands_at, Else-not-stands_at}
 
 pub returns-in_err-number : goal.returns-in_err-number
 returns-in_err-number g c =
     let p = err_from_is_err_and c.from_residual.result c.from_residual.ensures.1 in
-    alone c.args.marks.now c.args.text.now c.from_residual.result (rw (p.1, p.2) (number_fails c.args.marks.now c.args.marks.now [] c.args.text.now 0 c.in_err-number.field-0.0 (at_start c.args.marks.now c.args.text.now) c.in_err-number.ensures))
+    alone_scanned c.args.marks.now c.args.text.now c.from_residual.result (rw (p.1, p.2) (number_fails c.args.marks.now c.args.marks.now [] c.args.text.now 0 c.in_err-number.field-0.0 (at_start c.args.marks.now c.args.text.now) c.in_err-number.ensures))
 
 pub loop-place-init : goal.loop-place-init
 loop-place-init g c =
@@ -26,7 +26,7 @@ loop-place-init g c =
 pub returns-then-not-stands_at : goal.returns-then-not-stands_at
 returns-then-not-stands_at g c =
     let here : c.loop-place.place < length c.args.marks.now = omega arith in
-    alone c.args.marks.now c.args.text.now (Err c.at.result) (rw c.at.ensures (mark_missing c.args.marks.now _ _ _ _ _ (next_mark _ _ _ _ _ here c.loop-place.invariant.read) (λ is. true≢false (sym (c.stands_at.ensures.1 is) ∙ c.if-not-stands_at.true))))
+    alone_scanned c.args.marks.now c.args.text.now (Err c.at.result) (rw c.at.ensures (mark_missing c.args.marks.now _ _ _ _ _ (next_mark _ _ _ _ _ here c.loop-place.invariant.read) (λ is. true≢false (sym (c.stands_at.ensures.1 is) ∙ c.if-not-stands_at.true))))
 
 pub number_at-requires-in-loop-place : goal.number_at-requires-in-loop-place
 number_at-requires-in-loop-place g c =
@@ -38,7 +38,7 @@ pub returns-in_err-number-2 : goal.returns-in_err-number-2
 returns-in_err-number-2 g c =
     let here : c.loop-place.place < length c.args.marks.now = omega arith in
     let p = err_from_is_err_and c.from_residual-in_err-number-2.result c.from_residual-in_err-number-2.ensures.1 in
-    alone c.args.marks.now c.args.text.now c.from_residual-in_err-number-2.result (rw (p.1, p.2) (number_fails _ _ _ _ _ c.in_err-number-2.field-0.0 (mark_read _ _ _ _ _ _ (next_mark _ _ _ _ _ here c.loop-place.invariant.read) (c.stands_at.ensures.0 c.if-not-stands_at.false)) c.in_err-number-2.ensures))
+    alone_scanned c.args.marks.now c.args.text.now c.from_residual-in_err-number-2.result (rw (p.1, p.2) (number_fails _ _ _ _ _ c.in_err-number-2.field-0.0 (mark_read _ _ _ _ _ _ (next_mark _ _ _ _ _ here c.loop-place.invariant.read) (c.stands_at.ensures.0 c.if-not-stands_at.false)) c.in_err-number-2.ensures))
 
 pub loop-place-preserved : goal.loop-place-preserved
 loop-place-preserved g c =
@@ -53,10 +53,10 @@ loop-place-preserved g c =
 
 pub returns-then-end-text : goal.returns-then-end-text
 returns-then-end-text g c =
-    alone c.args.marks.now c.args.text.now (Err c.at-then-end-text.result) (rw c.at-then-end-text.ensures (more_than_all _ _ _ _ (no_mark _ _ _ _ _ (omega arith) c.loop-place.invariant.read) c.if-end-text.true))
+    alone_scanned c.args.marks.now c.args.text.now (Err c.at-then-end-text.result) (rw c.at-then-end-text.ensures (more_than_all _ _ _ _ (no_mark _ _ _ _ _ (omega arith) c.loop-place.invariant.read) c.if-end-text.true))
 
 pub returns : goal.returns
 returns g c =
     let same = c.loop-place.invariant.room in
     let all = take_all c.loop-place.place c.loop-place.later (omega arith) in
-    alone c.args.marks.now c.args.text.now (Ok (record { first = c.in_ok-number.number.value; later = c.loop-place.later })) (subst (λ ns. Spells c.args.marks.now (c.in_ok-number.number.value ∷ ns) c.args.text.now) all (all_read _ _ _ _ (no_mark _ _ _ _ _ (omega arith) c.loop-place.invariant.read) (omega arith)))
+    alone_scanned c.args.marks.now c.args.text.now (Ok (record { first = c.in_ok-number.number.value; later = c.loop-place.later })) (subst (λ ns. Spells c.args.marks.now (c.in_ok-number.number.value ∷ ns) c.args.text.now) all (all_read _ _ _ _ (no_mark _ _ _ _ _ (omega arith) c.loop-place.invariant.read) (omega arith)))
