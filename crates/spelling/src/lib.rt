@@ -18,3 +18,6 @@ pub use read::{read_address, read_number, read_prefix, read_range};
 pub use scanning::scan;
 pub use sets::{put_set, read_set};
 pub use write::{put_address, put_number, put_prefix, put_range};
+
+#[cfg(test)]
+mod tests;

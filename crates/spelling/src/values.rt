@@ -23,6 +23,12 @@ fn octet(number: u64) -> Result<u8, NumberFault>
     Ok(at_most(number, 255)? as u8)
 }
 
+fn prefix_length(number: u64) -> Result<u8, NumberFault>
+    ensures { MatchResult result (λ n. (n ≡ number) × (number ≤ 32)) (λ e. (e ≡ TooLarge) × (32 < number)) }
+{
+    Ok(at_most(number, 32)? as u8)
+}
+
 fn octets(first: u64, second: u64, third: u64, fourth: u64) -> Result<u32, Problem>
     ensures { AddressOf (first ∷ second ∷ third ∷ fourth ∷ []) result }
 {
@@ -47,7 +53,7 @@ pub(crate) fn prefix(numbers: Numbers<4>) -> Result<Prefix, Problem>
 {
     let [second, third, fourth, length] = numbers.later;
     let address = octets(numbers.first, second, third, fourth)?;
-    let length = at_most(length, 32)? as u8;
+    let length = prefix_length(length)?;
     Prefix::new(address, length).ok_or(Problem::Region(RegionFault::HostBits))
 }
 
