@@ -1,5 +1,4 @@
 // A number as it stands in a text: a run of 1 to 10 decimal digits.
-ghost use Rattle.std.specs.Prelude.{◌≡◌};
 ghost use Rattle.spelling.specs.Numbers.{Leads};
 
 use crate::fault::NumberFault;

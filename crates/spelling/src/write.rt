@@ -1,5 +1,5 @@
 // The fields of a line, written.
-ghost use Rattle.std.specs.Prelude.{◌≡◌, ℕ, ◌≤◌, [], ◌∷◌, decimal};
+ghost use Rattle.std.specs.Prelude.{◌≡◌, ℕ, ◌≤◌, ◌∷◌, decimal};
 ghost use Rattle.std.specs.Int.{w32, to_be_bytes};
 ghost use Rattle.spelling.specs.Meanings.{NumberOf, AddressOf, PrefixOf, RangeOf};
 ghost use Rattle.spelling.specs.Reads.{ReadsForm};
