@@ -61,7 +61,9 @@ fn compare<A: Kind + Numbered, R: Kind + Numbered>(
         "slices that were too short changed something"
     );
     let calls = short.short_calls;
-    println!(rt; "a slice one row too short: {calls} calls get 1, and those after them the same answers")?;
+    println!(rt;
+        "a slice one row too short: {calls} calls get 1, and those after them the same answers"
+    )?;
     Ok(())
 }
 
