@@ -201,7 +201,7 @@ fn properties<A: Kind + Numbered, R: Kind + Numbered>(
     Ok(stood)
 }
 
-pub fn run_all<A: Kind + Numbered, R: Kind + Numbered>(
+pub(crate) fn run_all<A: Kind + Numbered, R: Kind + Numbered>(
     session: &mut Session<A, R>,
 ) -> anyhow::Result<Limits> {
     Ok(Limits {

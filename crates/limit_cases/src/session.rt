@@ -137,7 +137,12 @@ fn shorter(slice: usize) -> Lent {
 }
 
 impl<A: Kind + Numbered, R: Kind + Numbered> Session<A, R> {
-    pub fn new(alloc: Global, addresses: A, rests: R, manner: Manner) -> anyhow::Result<Self> {
+    pub(crate) fn new(
+        alloc: Global,
+        addresses: A,
+        rests: R,
+        manner: Manner,
+    ) -> anyhow::Result<Self> {
         let stores = stores_with(alloc, least_lengths(), addresses, rests)?;
         Ok(Session {
             addresses,
@@ -151,7 +156,7 @@ impl<A: Kind + Numbered, R: Kind + Numbered> Session<A, R> {
     }
 
     // A new register, over tables and frames as the last one left them.
-    pub fn restart(&mut self) {
+    pub(crate) fn restart(&mut self) {
         self.register = Register::new(self.addresses, self.rests);
     }
 
@@ -181,7 +186,7 @@ impl<A: Kind + Numbered, R: Kind + Numbered> Session<A, R> {
     }
 
     // Makes the call, notes the answer, and answers the number of its refusal, if it is one.
-    pub fn call(&mut self, call: CallOf<A, R>) -> anyhow::Result<Option<u8>> {
+    pub(crate) fn call(&mut self, call: CallOf<A, R>) -> anyhow::Result<Option<u8>> {
         match self.manner {
             Manner::Plain => (),
             Manner::Junk => {

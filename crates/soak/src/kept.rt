@@ -35,7 +35,7 @@ fn is_same_property<A: RowKind, R: RowKind>(
 }
 
 // Whether the tables have the same rows.
-pub fn are_same_tables<A: RowKind, R: RowKind>(
+pub(crate) fn are_same_tables<A: RowKind, R: RowKind>(
     one: &Tables<A::Row, R::Row>,
     other: &Tables<A::Row, R::Row>,
 ) -> bool {

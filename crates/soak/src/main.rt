@@ -1,6 +1,8 @@
 // Makes many calls on one register of each packet form, and holds each answer to the judge.
 #![tactic(auto)]
 
+mod draws;
+mod judge;
 mod kept;
 mod rows;
 mod run;
@@ -8,8 +10,8 @@ mod sizes;
 mod store;
 mod tally;
 
+use crate::draws::{Form, flat, long};
 use anyhow::{Context, bail, ensure};
-use draws::{Form, flat, long};
 use rows::RowKind;
 use run::run;
 use std::alloc::Global;

@@ -1,11 +1,11 @@
 // A run: calls drawn, made and judged one after another.
+use crate::draws::{Draw, Form, Name, Random, draw_lent, draw_name, plain, typed};
+use crate::judge::{Case, Fixed, PlainAnswer, PlainCall, PlainTree, Wholes};
 use crate::kept::are_same_tables;
 use crate::rows::RowKind;
 use crate::store::Store;
 use crate::tally::Tally;
 use anyhow::{Context, ensure};
-use draws::{Draw, Form, Name, Random, draw_lent, draw_name, plain, typed};
-use judge::{Case, Fixed, PlainAnswer, PlainCall, PlainTree, Wholes};
 use model::Lent;
 use register::Register;
 use std::alloc::Global;
@@ -87,7 +87,7 @@ fn step<A: RowKind, R: RowKind>(
 }
 
 // Makes so many calls on a new register.
-pub fn run<A: RowKind, R: RowKind>(
+pub(crate) fn run<A: RowKind, R: RowKind>(
     heap: Global,
     form: &Form<A, R>,
     seed: u64,

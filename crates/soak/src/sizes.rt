@@ -1,5 +1,5 @@
 // How large the tree became.
-use judge::PlainTree;
+use crate::judge::PlainTree;
 use model::{MAX_BLOCKS, MAX_DOMAINS, MAX_LIST, MAX_PROPERTIES, MAX_RULES};
 use std::fmt;
 
@@ -39,7 +39,7 @@ impl fmt::Display for Sizes {
 }
 
 impl Sizes {
-    pub fn of(tree: &PlainTree) -> Sizes {
+    pub(crate) fn of(tree: &PlainTree) -> Sizes {
         let list = tree
             .firewalls
             .iter()
@@ -54,7 +54,7 @@ impl Sizes {
     }
 
     // The larger of each.
-    pub fn max(self, other: Sizes) -> Sizes {
+    pub(crate) fn max(self, other: Sizes) -> Sizes {
         Sizes {
             domains: self.domains.max(other.domains),
             blocks: self.blocks.max(other.blocks),

@@ -1,7 +1,7 @@
 // The memory that lasts for a run, of which each call is lent a part.
+use crate::draws::{ASKED, Form, MORE, Random};
 use crate::kept::Tables;
 use checks::{PacketRow, PropertyRow, RuleRow, block_row, property_row, rule_row};
-use draws::{ASKED, Form, MORE, Random};
 use kinds::{Kind, Set};
 use model::{Answer, Call, Decision, Lent, Property, Rule};
 use register::{Memory, Register};
@@ -56,7 +56,7 @@ fn first<T>(rows: &mut [T], count: usize) -> &mut [T] {
 
 impl<X: Copy, Y: Copy> Store<X, Y> {
     // All of it junk.
-    pub fn new<A: Kind<Row = X>, R: Kind<Row = Y>>(
+    pub(crate) fn new<A: Kind<Row = X>, R: Kind<Row = Y>>(
         heap: Global,
         form: &Form<A, R>,
         random: &mut Random,
@@ -78,7 +78,7 @@ impl<X: Copy, Y: Copy> Store<X, Y> {
     }
 
     // Makes all frames junk again.
-    pub fn spoil<A: Kind<Row = X>, R: Kind<Row = Y>>(
+    pub(crate) fn spoil<A: Kind<Row = X>, R: Kind<Row = Y>>(
         &mut self,
         form: &Form<A, R>,
         random: &mut Random,
@@ -96,7 +96,7 @@ impl<X: Copy, Y: Copy> Store<X, Y> {
     }
 
     // Makes a call with so many rows of each lent to it.
-    pub fn apply<A: Kind<Row = X>, R: Kind<Row = Y>>(
+    pub(crate) fn apply<A: Kind<Row = X>, R: Kind<Row = Y>>(
         &mut self,
         lent: Lent,
         register: &mut Register<A, R>,

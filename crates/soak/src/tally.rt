@@ -1,7 +1,7 @@
 // What was called and answered, counted.
+use crate::draws::{NAMES, Name};
+use crate::judge::{Fixed, PlainTree};
 use crate::sizes::{LIMITS, Sizes};
-use draws::{NAMES, Name};
-use judge::{Fixed, PlainTree};
 use std::io;
 
 #[derive(Clone, Copy, Default)]
@@ -27,7 +27,7 @@ fn count(number: &mut u32) {
 }
 
 impl Tally {
-    pub fn new() -> Tally {
+    pub(crate) fn new() -> Tally {
         Tally {
             calls: [Calls::default(); NAMES.len()],
             refused: [0; 12],
@@ -40,7 +40,7 @@ impl Tally {
     }
 
     // Takes down a call, its answer, and the tree that it left.
-    pub fn add(&mut self, name: Name, answered: Fixed, tree: &PlainTree) {
+    pub(crate) fn add(&mut self, name: Name, answered: Fixed, tree: &PlainTree) {
         self.largest = self.largest.max(Sizes::of(tree));
         let refusal = answered.refusal();
         if let Some(calls) = self.calls.get_mut(name as usize) {
@@ -64,17 +64,17 @@ impl Tally {
     }
 
     // The smallest refusal that was not seen.
-    pub fn unseen(&self) -> Option<usize> {
+    pub(crate) fn unseen(&self) -> Option<usize> {
         let place = self.refused.iter().position(|count| *count == 0)?;
         Some(place.saturating_add(1))
     }
 
     // Whether each limit was reached.
-    pub fn reached_limits(&self) -> bool {
+    pub(crate) fn reached_limits(&self) -> bool {
         self.largest == LIMITS
     }
 
-    pub fn print(&self, rt: &impl Eprint, form: &str) -> io::Result<()> {
+    pub(crate) fn print(&self, rt: &impl Eprint, form: &str) -> io::Result<()> {
         eprint!(rt; "{form}: done of made:")?;
         for (name, calls) in NAMES.iter().zip(self.calls.iter()) {
             let Calls { made, done } = *calls;

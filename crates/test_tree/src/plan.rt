@@ -55,7 +55,7 @@ fn host(a: u8, b: u8, d: u8) -> Option<Prefix> {
     Prefix::new(u32::from_be_bytes([a, b, 0, d]), 32)
 }
 
-pub fn long_plan() -> Option<Plan<Prefix, LongRest>> {
+pub(crate) fn long_plan() -> Option<Plan<Prefix, LongRest>> {
     let any_port = Range::new(0, 65535)?;
     let one_port = one(5000)?;
     Some(Plan {
@@ -87,7 +87,7 @@ fn flagged(number: u32, flags: Set) -> Option<FlatRest> {
     })
 }
 
-pub fn flat_plan() -> Option<Plan<Range, FlatRest>> {
+pub(crate) fn flat_plan() -> Option<Plan<Range, FlatRest>> {
     let unset = Set::single(0)?;
     Some(Plan {
         addresses: flat_addresses(),

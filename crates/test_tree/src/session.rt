@@ -56,7 +56,7 @@ pub struct Session<'a, A: Kind, R: Kind, P: Print + AllocGlobal> {
 }
 
 impl<'a, A: Kind + Shown, R: Kind + Shown, P: Print + AllocGlobal> Session<'a, A, R, P> {
-    pub fn new(rt: &'a P, plan: &Plan<A, R>, tally: Tally) -> anyhow::Result<Self> {
+    pub(crate) fn new(rt: &'a P, plan: &Plan<A, R>, tally: Tally) -> anyhow::Result<Self> {
         let stores = stores_with(rt.alloc(), least_lengths(), plan.addresses, plan.rests)?;
         Ok(Session {
             rt,
@@ -68,7 +68,7 @@ impl<'a, A: Kind + Shown, R: Kind + Shown, P: Print + AllocGlobal> Session<'a, A
     }
 
     // Makes all calls so far once more, by a replay that begins without any rows; what it answers.
-    pub fn replay(&self, plan: &Plan<A, R>) -> anyhow::Result<Tally> {
+    pub(crate) fn replay(&self, plan: &Plan<A, R>) -> anyhow::Result<Tally> {
         let none = Lent {
             rules: 0,
             blocks: 0,
@@ -87,7 +87,7 @@ impl<'a, A: Kind + Shown, R: Kind + Shown, P: Print + AllocGlobal> Session<'a, A
     }
 
     // Makes one call, and prints the answer beside what it is about.
-    pub fn make(&mut self, words: &str, call: CallOf<A, R>) -> anyhow::Result<()> {
+    pub(crate) fn make(&mut self, words: &str, call: CallOf<A, R>) -> anyhow::Result<()> {
         let mut memory = Memory {
             rules: &mut self.stores.rules,
             blocks: &mut self.stores.blocks,

@@ -1,7 +1,7 @@
 // Numbers that look random, the same in each run.
 ghost use Rattle.std.specs.Prelude.{◌<◌};
 
-use judge::Values;
+use crate::judge::Values;
 use rand_core::Rng;
 use rand_pcg::Pcg32;
 
@@ -11,7 +11,7 @@ const STREAM: u64 = 54;
 pub struct Random(Pcg32);
 
 impl Random {
-    pub fn new(seed: u64) -> Random {
+    pub(crate) fn new(seed: u64) -> Random {
         Random(Pcg32::new(seed, STREAM))
     }
 
@@ -21,7 +21,7 @@ impl Random {
     }
 
     // A number below `n`; 0 where that is 0.
-    pub fn below(&mut self, n: usize) -> usize
+    pub(crate) fn below(&mut self, n: usize) -> usize
         ensures { 0 < n → result < n }
     {
         let word = self.word() as usize;

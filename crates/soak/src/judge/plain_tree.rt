@@ -1,5 +1,5 @@
 // The plain tree.
-use crate::parts::{PlainProperty, PlainRule};
+use crate::judge::parts::{PlainProperty, PlainRule};
 use std::alloc::{AllocError, Global};
 
 // All addresses, and all rests.
@@ -42,7 +42,7 @@ pub struct PlainTree {
 
 impl PlainTree {
     // Domain 0 alone.
-    pub fn new(heap: Global, wholes: Wholes) -> Result<PlainTree, AllocError> {
+    pub(crate) fn new(heap: Global, wholes: Wholes) -> Result<PlainTree, AllocError> {
         Ok(PlainTree {
             wholes,
             firewalls: Vec::new(heap),
@@ -53,7 +53,7 @@ impl PlainTree {
     }
 
     // The list of a firewall; empty where there is none of this number.
-    pub fn rules(&self, firewall: usize) -> &[PlainRule] {
+    pub(crate) fn rules(&self, firewall: usize) -> &[PlainRule] {
         match self.firewalls.get(firewall) {
             Some(found) => found.rules.as_slice(),
             None => &[],
@@ -61,7 +61,7 @@ impl PlainTree {
     }
 
     // How many rules there are in all.
-    pub fn rule_count(&self) -> usize {
+    pub(crate) fn rule_count(&self) -> usize {
         self.firewalls.iter().fold(
             0,
             |all: usize, firewall| all.saturating_add(firewall.rules.len()),
@@ -74,7 +74,7 @@ impl PlainTree {
     }
 
     // Whether the domain is joined to the firewall, from above or from below.
-    pub fn is_joined(&self, firewall: usize, domain: usize) -> bool {
+    pub(crate) fn is_joined(&self, firewall: usize, domain: usize) -> bool {
         self.firewalls
             .get(firewall)
             .is_some_and(|found| found.above == domain)

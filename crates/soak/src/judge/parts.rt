@@ -1,5 +1,5 @@
 // The parts of calls and answers, as the judge has them.
-use crate::values::{Values, value};
+use crate::judge::values::{Values, value};
 use kinds::{Kind, Set};
 use model::{Answer, Call, Decision, MAX_INTERFACES, Packet, Property, Rule};
 

@@ -1,9 +1,9 @@
 // What a call must answer, in a tree.
-use crate::answers::{Fixed, Judged, Proof};
-use crate::packets::decided;
-use crate::parts::{Lane, PlainCall, PlainPacket, PlainProperty, plain_property};
-use crate::tree::PlainTree;
-use crate::values::value;
+use crate::judge::answers::{Fixed, Judged, Proof};
+use crate::judge::packets::decided;
+use crate::judge::parts::{Lane, PlainCall, PlainPacket, PlainProperty, plain_property};
+use crate::judge::plain_tree::PlainTree;
+use crate::judge::values::value;
 use model::{Call, Decision, Header, Lent};
 use std::alloc::{AllocError, Global};
 
@@ -17,7 +17,7 @@ pub struct Case<'a> {
 
 impl Case<'_> {
     // The first refusal of the table that applies, or else what the call says.
-    pub fn judge(&self, call: PlainCall, lent: Lent) -> Result<Judged, AllocError> {
+    pub(crate) fn judge(&self, call: PlainCall, lent: Lent) -> Result<Judged, AllocError> {
         if let Some(number) = self.before.early_refusal(call, lent) {
             return Ok(Judged::plain(Fixed::Refused { number }));
         }

@@ -1,6 +1,6 @@
 // How often each call is made: the weights change, so that the tree grows to its limits and shrinks.
-use crate::names::{NAMES, Name};
-use crate::random::Random;
+use crate::draws::names::{NAMES, Name};
+use crate::draws::random::Random;
 
 // Calls of one phase. After the last phase comes the first again.
 const LENGTH: usize = 625;
@@ -26,7 +26,7 @@ const PHASES: [[usize; 11]; 8] = [
 ];
 
 // Draws which call is made, as the weights of its phase are.
-pub fn draw_name(random: &mut Random, call_number: usize) -> Name {
+pub(crate) fn draw_name(random: &mut Random, call_number: usize) -> Name {
     let weights = PHASES[call_number / LENGTH % PHASES.len()];
     let all = weights
         .iter()

@@ -1,7 +1,7 @@
 // Properties that may stand.
 use super::{Draw, decision};
-use crate::both::Known;
-use crate::random::Random;
+use crate::draws::both::Known;
+use crate::draws::random::Random;
 use kinds::Kind;
 use model::{Decision, Property};
 

@@ -1,8 +1,8 @@
 // The two packet forms, in wholes so small that all their values can be gone over: 128 addresses, as many
 // as there may be blocks, and four rests.
-use crate::addresses::{ADDRESSES, all_addresses, prefixes, ranges};
-use crate::pool::Pool;
-use crate::rests::{flat_rests, long_rests};
+use crate::draws::addresses::{ADDRESSES, all_addresses, prefixes, ranges};
+use crate::draws::pool::Pool;
+use crate::draws::rests::{flat_rests, long_rests};
 use kinds::{FlatRest, Kind, LongRest, Prefix, Range};
 use std::alloc::{AllocError, Global};
 
@@ -14,7 +14,7 @@ pub struct Form<A: Kind, R: Kind> {
 }
 
 // Prefixes of 0.0.0.0/25.
-pub fn long(heap: Global) -> Result<Form<Prefix, LongRest>, AllocError> {
+pub(crate) fn long(heap: Global) -> Result<Form<Prefix, LongRest>, AllocError> {
     let values = all_addresses(heap)?;
     let regions = prefixes(heap)?;
     // The shortest comes first.
@@ -27,7 +27,7 @@ pub fn long(heap: Global) -> Result<Form<Prefix, LongRest>, AllocError> {
 }
 
 // Ranges of 0 to 127.
-pub fn flat(heap: Global) -> Result<Form<Range, FlatRest>, AllocError> {
+pub(crate) fn flat(heap: Global) -> Result<Form<Range, FlatRest>, AllocError> {
     let values = all_addresses(heap)?;
     let regions = ranges(heap)?;
     let whole = Range::up_to(ADDRESSES - 1);

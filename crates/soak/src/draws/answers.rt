@@ -1,12 +1,12 @@
 // Answers as the judge takes them: what they show as sets of one value, or as the empty set where it is no
 // value of the whole.
-use crate::forms::Form;
-use judge::PlainAnswer;
+use crate::draws::forms::Form;
+use crate::judge::PlainAnswer;
 use kinds::Kind;
 use model::{Answer, Packet, Refusal};
 
 impl<A: Kind, R: Kind> Form<A, R> {
-    pub fn plain_answer(&self, answer: Answer<A::Value, R::Value>) -> PlainAnswer {
+    pub(crate) fn plain_answer(&self, answer: Answer<A::Value, R::Value>) -> PlainAnswer {
         match answer {
             Answer::Done => Answer::Done,
             Answer::Attached { firewall, domain } => Answer::Attached { firewall, domain },

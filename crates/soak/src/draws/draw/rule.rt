@@ -1,7 +1,7 @@
 // Edits of lists.
 use super::{Draw, DrawnOf, decision};
-use crate::both::Known;
-use crate::random::Random;
+use crate::draws::both::Known;
+use crate::draws::random::Random;
 use kinds::{Kind, Set};
 use model::{Call, Rule};
 

@@ -2,7 +2,7 @@
 ghost use Rattle.std.specs.Iterator.{at_most};
 
 // The value of this number; the empty set where it is too large.
-pub fn value(number: u32) -> u128 {
+pub(crate) fn value(number: u32) -> u128 {
     if number < u128::BITS { 1 << number } else { 0 }
 }
 

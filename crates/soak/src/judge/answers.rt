@@ -1,7 +1,7 @@
 // Answers, parted into what is fixed in them and what is free: the address or the packet that is shown.
-use crate::parts::{PlainAnswer, PlainPacket, PlainProperty};
-use crate::route::Entered;
-use crate::tree::PlainTree;
+use crate::judge::parts::{PlainAnswer, PlainPacket, PlainProperty};
+use crate::judge::plain_tree::PlainTree;
+use crate::judge::route::Entered;
 use model::{Answer, Refusal};
 
 // What is fixed in an answer.
@@ -101,12 +101,12 @@ fn part(answer: PlainAnswer) -> (Fixed, Shown) {
 
 impl Fixed {
     // What is fixed in an answer.
-    pub fn of(answer: PlainAnswer) -> Fixed {
+    pub(crate) fn of(answer: PlainAnswer) -> Fixed {
         part(answer).0
     }
 
     // The number of the refusal that it is, if it is one.
-    pub fn refusal(self) -> Option<u8> {
+    pub(crate) fn refusal(self) -> Option<u8> {
         match self {
             Fixed::Refused { number } => Some(number),
             Fixed::Overlap { .. } => Some(6),
@@ -117,7 +117,7 @@ impl Fixed {
     }
 
     // Whether a call that is answered so may change a table.
-    pub fn changes(self) -> bool {
+    pub(crate) fn changes(self) -> bool {
         matches!(self, Fixed::Done | Fixed::Attached { .. })
     }
 }
@@ -140,7 +140,7 @@ impl Judged {
     }
 
     // Whether the answer is this, and shows what proves it in the tree as the call would have left it.
-    pub fn is_met(self, answer: PlainAnswer, after: &PlainTree) -> bool {
+    pub(crate) fn is_met(self, answer: PlainAnswer, after: &PlainTree) -> bool {
         let (fixed, shown) = part(answer);
         fixed == self.fixed && self.proof.is_shown(shown, after)
     }

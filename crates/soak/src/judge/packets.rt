@@ -1,8 +1,8 @@
 // What becomes of packets in a list.
-use crate::parts::{ALL_INTERFACES, Lane, PlainPacket, PlainProperty, PlainRule};
-use crate::route::Entered;
-use crate::tree::PlainTree;
-use crate::values::{Values, value};
+use crate::judge::parts::{ALL_INTERFACES, Lane, PlainPacket, PlainProperty, PlainRule};
+use crate::judge::plain_tree::PlainTree;
+use crate::judge::route::Entered;
+use crate::judge::values::{Values, value};
 use model::Decision;
 
 // The destinations of a lane by what a list does with packets to them.

@@ -1,6 +1,6 @@
 // The first five lines of the refusal table: what is refused without a look at any packet.
-use crate::parts::{PlainCall, Region};
-use crate::tree::PlainTree;
+use crate::judge::parts::{PlainCall, Region};
+use crate::judge::plain_tree::PlainTree;
 use model::{
     Call, Lent, MAX_BLOCKS, MAX_DOMAINS, MAX_INTERFACES, MAX_LIST, MAX_PROPERTIES, MAX_RULES,
     MIN_ADDRESS_FRAMES, MIN_PACKET_FRAMES, Property, Rule,

@@ -1,6 +1,6 @@
 // The rests of both forms, and regions of them: those of the whole, and some others.
-use crate::addresses::ranges_of;
-use crate::pool::Pool;
+use crate::draws::addresses::ranges_of;
+use crate::draws::pool::Pool;
 use kinds::{FlatRest, LongRest, Pair, Range, Set};
 use std::alloc::{AllocError, Global};
 

@@ -1,7 +1,7 @@
 // What addresses, or rests, are drawn from: a whole, and regions inside it and outside.
-use crate::both::{Known, Member};
-use crate::random::Random;
-use judge::{Region, value};
+use crate::draws::both::{Known, Member};
+use crate::draws::random::Random;
+use crate::judge::{Region, value};
 use kinds::Kind;
 use std::alloc::{AllocError, Global};
 
@@ -56,7 +56,7 @@ fn know<K: Kind>(region: K, values: &[Member<K::Value>]) -> Known<K> {
 }
 
 impl<K: Kind> Pool<K> {
-    pub fn new(
+    pub(crate) fn new(
         heap: Global,
         whole: K,
         values: &[K::Value],
@@ -86,7 +86,7 @@ impl<K: Kind> Pool<K> {
     }
 
     // Some region, now and then one that is not inside the whole.
-    pub fn any(&self, random: &mut Random) -> Known<K> {
+    pub(crate) fn any(&self, random: &mut Random) -> Known<K> {
         if random.once_in(32) {
             random.pick(&self.outside).unwrap_or(self.whole)
         } else if random.once_in(8) {

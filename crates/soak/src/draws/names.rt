@@ -32,7 +32,7 @@ pub const NAMES: [Name; 11] = [
 ];
 
 impl Name {
-    pub fn of<A, R, V, W>(call: &Call<A, R, V, W>) -> Name {
+    pub(crate) fn of<A, R, V, W>(call: &Call<A, R, V, W>) -> Name {
         match call {
             Call::Attach { .. } => Name::Attach,
             Call::Branch { .. } => Name::Branch,

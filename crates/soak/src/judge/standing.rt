@@ -1,7 +1,7 @@
 // What stands, in a tree: the first property that is misplaced, and the first that is broken.
-use crate::parts::PlainProperty;
-use crate::route::Entered;
-use crate::tree::PlainTree;
+use crate::judge::parts::PlainProperty;
+use crate::judge::plain_tree::PlainTree;
+use crate::judge::route::Entered;
 use std::alloc::{AllocError, Global};
 
 impl PlainTree {
@@ -43,7 +43,7 @@ impl PlainTree {
     }
 
     // Whether every standing property is well placed, and no packet breaks it.
-    pub fn is_guarded(&self, heap: Global) -> Result<bool, AllocError> {
+    pub(crate) fn is_guarded(&self, heap: Global) -> Result<bool, AllocError> {
         let joined = !self
             .properties
             .iter()

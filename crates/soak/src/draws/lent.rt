@@ -1,5 +1,5 @@
 // How much memory is lent to a call.
-use crate::random::Random;
+use crate::draws::random::Random;
 use model::{Lent, MAX_BLOCKS, MAX_PROPERTIES, MAX_RULES, MIN_ADDRESS_FRAMES, MIN_PACKET_FRAMES};
 
 // What every call asks for.
@@ -15,7 +15,7 @@ pub const ASKED: Lent = Lent {
 pub const MORE: usize = 2;
 
 // What is asked for, or some rows more, or now and then one row too few in one of the slices.
-pub fn draw_lent(random: &mut Random) -> Lent {
+pub(crate) fn draw_lent(random: &mut Random) -> Lent {
     let more = random.below(MORE + 1);
     let mut lent = Lent {
         rules: ASKED.rules + more,

@@ -1,5 +1,5 @@
 // Calls as they are drawn: each part of a kind has two sides, one for the register and one for the judge.
-use judge::{PlainCall, Region};
+use crate::judge::{PlainCall, Region};
 use model::{Call, Header, Property, Rule};
 
 #[derive(Clone, Copy)]
@@ -73,11 +73,13 @@ macro_rules! call_side {
 }
 
 // The call as the register takes it.
-pub fn typed<A: Copy, R: Copy, V: Copy, W: Copy>(call: Drawn<A, R, V, W>) -> Call<A, R, V, W> {
+pub(crate) fn typed<A: Copy, R: Copy, V: Copy, W: Copy>(
+    call: Drawn<A, R, V, W>,
+) -> Call<A, R, V, W> {
     call_side!(call, typed)
 }
 
 // The call as the judge takes it.
-pub fn plain<A: Copy, R: Copy, V: Copy, W: Copy>(call: Drawn<A, R, V, W>) -> PlainCall {
+pub(crate) fn plain<A: Copy, R: Copy, V: Copy, W: Copy>(call: Drawn<A, R, V, W>) -> PlainCall {
     call_side!(call, plain)
 }

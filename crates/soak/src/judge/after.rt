@@ -1,6 +1,6 @@
 // What a call makes of the plain tree.
-use crate::parts::{ALL_INTERFACES, PlainCall, PlainRule, plain_property};
-use crate::tree::{Joint, PlainBlock, PlainFirewall, PlainTree};
+use crate::judge::parts::{ALL_INTERFACES, PlainCall, PlainRule, plain_property};
+use crate::judge::plain_tree::{Joint, PlainBlock, PlainFirewall, PlainTree};
 use model::{Call, Decision};
 use std::alloc::{AllocError, Global};
 
@@ -13,7 +13,7 @@ fn take_out<T: Drop>(items: &mut Vec<T>, at: usize) {
 
 impl PlainTree {
     // The tree as the call leaves it where it is not refused. A number that does not exist changes nothing.
-    pub fn after(&self, heap: Global, call: PlainCall) -> Result<PlainTree, AllocError> {
+    pub(crate) fn after(&self, heap: Global, call: PlainCall) -> Result<PlainTree, AllocError> {
         let mut tree = self.clone()?;
         match call {
             Call::Attach {

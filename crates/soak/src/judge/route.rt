@@ -1,6 +1,6 @@
 // The route between two domains, found by their ways to domain 0: what both ways have in common is left
 // out.
-use crate::tree::PlainTree;
+use crate::judge::plain_tree::PlainTree;
 use std::alloc::{AllocError, Global};
 
 // A firewall on a route, and the interface that it is entered by.

@@ -1,9 +1,9 @@
 // Draws calls that are mostly good in the tree as it stands.
-use crate::both::{Drawn, Known};
-use crate::forms::Form;
-use crate::names::Name;
-use crate::random::Random;
-use judge::PlainTree;
+use crate::draws::both::{Drawn, Known};
+use crate::draws::forms::Form;
+use crate::draws::names::Name;
+use crate::draws::random::Random;
+use crate::judge::PlainTree;
 use kinds::Kind;
 use model::{Call, Decision, Header, MAX_INTERFACES};
 
@@ -37,7 +37,7 @@ fn decision(random: &mut Random, times: usize) -> Decision {
 
 impl<A: Kind, R: Kind> Draw<'_, A, R> {
     // A call of this name; nothing where a form has no values.
-    pub fn call(&self, random: &mut Random, name: Name) -> Option<DrawnOf<A, R>> {
+    pub(crate) fn call(&self, random: &mut Random, name: Name) -> Option<DrawnOf<A, R>> {
         Some(match name {
             Name::Attach => self.attach(random),
             Name::Branch => self.branch(random),

@@ -1,11 +1,11 @@
 // Which addresses are of which domain, and which of a property's go astray.
-use crate::parts::PlainProperty;
-use crate::tree::PlainTree;
+use crate::judge::parts::PlainProperty;
+use crate::judge::plain_tree::PlainTree;
 use model::Decision;
 
 impl PlainTree {
     // The domain of an address: that of the block that holds it, else domain 0.
-    pub fn owner(&self, address: u128) -> usize {
+    pub(crate) fn owner(&self, address: u128) -> usize {
         self.blocks
             .iter()
             .find(|block| block.addresses & address != 0)
@@ -13,7 +13,7 @@ impl PlainTree {
     }
 
     // The addresses of a domain.
-    pub fn addresses_of(&self, domain: usize) -> u128 {
+    pub(crate) fn addresses_of(&self, domain: usize) -> u128 {
         if domain == 0 {
             let given = self.given(|_| true);
             return self.wholes.addresses & !given;
