@@ -1,5 +1,5 @@
 -- What a call does to tables of which only the first rows are lent to it.
-use Rattle.std.proofs.Common.{◌≡◌, ◌≤◌, List, [], ◌∷◌, ◌++◌, IfSome, MatchOption, length, take, drop, inl, inr, sym, ap, ◌∙◌, subst, subst₂, arith, take-take, length-take}
+use Rattle.std.proofs.Common.{◌≡◌, ℕ, ◌≤◌, List, [], ◌∷◌, ◌++◌, IfSome, MatchOption, map, length, take, drop, inl, inr, sym, ap, ◌∙◌, subst, subst₂, arith, take-take, length-take}
 use lib.ListN.{length-map}
 use Rattle.std.proofs.lemmas.List.{take-append-le, take-append-drop}
 use Rattle.kinds.specs.declared.kind.Kind.{Ghosts}
@@ -98,26 +98,22 @@ module _ {A R V W X Y : Type 0} (ka : Ghosts A V X) (kr : Ghosts R W Y) where
           told_too h p (rejoined l s p) x y _ (rejoined_used h l enough s p rules blocks properties) (promise.tells x y es before)
     ]
 
+-- where as many rows as there are things stand for them, so many rows are there
+rows_there : {T U : Type 0} (row : T → U) (n : ℕ) (rows : List U) (things : List T) → n ≡ length things → take n rows ≡ map row things → n ≤ length rows
+rows_there row n rows things count is =
+    let size = sym (length-take n rows) ∙ ap length is ∙ length-map things row in
+    omega (arith, size, count)
+
 module _ {A R V W X Y : Type 0} (ka : Ghosts A V X) (kr : Ghosts R W Y) (g : Register A R) (x : A) (y : R) (es : List (Recorded A R V W)) where
-  -- as many rows as are used are there
-  used_blocks : (s : Stored X Y) → Tells ka kr x y es g s → g.state.block_count ≤ length s.blocks
-  used_blocks s told =
-      let p = told.pictures in
-      let t = plain x y es in
-      let size = sym (length-take g.state.block_count s.blocks) ∙ ap length p.blocks ∙ length-map t.blocks (block_entry ka.plain) in
-      omega (arith, size, p.block_count)
-
-  used_properties : (s : Stored X Y) → Tells ka kr x y es g s → g.state.property_count ≤ length s.properties
-  used_properties s told =
-      let p = told.pictures in
-      let t = plain x y es in
-      let size = sym (length-take g.state.property_count s.properties) ∙ ap length p.properties ∙ length-map t.properties (property_row ka.plain kr.plain) in
-      omega (arith, size, p.property_count)
-
   -- tables with more rows behind their own tell the same
   pub told_longer : (s z : Stores X Y) → Longer s z → Tells ka kr x y es g (tables_in s) → Tells ka kr x y es g (tables_in z)
-  told_longer s z longer told = told_too ka kr g (tables_in s) (tables_in z) x y es (record {
-    rules = longer.rules (rule_count g.state) (laid_within told.pictures.lists);
-    blocks = longer.blocks g.state.block_count (used_blocks (tables_in s) told);
-    properties = longer.properties g.state.property_count (used_properties (tables_in s) told);
-  }) told
+  told_longer s z longer told =
+      let p = told.pictures in
+      let t = plain x y es in
+      let blocks = rows_there (block_entry ka.plain) g.state.block_count s.blocks.items t.blocks p.block_count p.blocks in
+      let properties = rows_there (property_row ka.plain kr.plain) g.state.property_count s.properties.items t.properties p.property_count p.properties in
+      told_too ka kr g (tables_in s) (tables_in z) x y es (record {
+        rules = longer.rules (rule_count g.state) (laid_within p.lists);
+        blocks = longer.blocks g.state.block_count blocks;
+        properties = longer.properties g.state.property_count properties;
+      }) told
