@@ -32,6 +32,19 @@ fn lengthen<T: Copy>(rows: &mut Vec<T>, count: usize, filler: T) -> Result<(), A
     Ok(())
 }
 
+// A property whose regions are wholes.
+fn whole_property<A: Kind, R: Kind>(addresses: A, rests: R) -> PropertyRow<A::Row, R::Row> {
+    let address = addresses.row();
+    PropertyRow {
+        sort: Decision::Discard,
+        from: 0,
+        to: 0,
+        source: address,
+        destination: address,
+        rest: rests.row(),
+    }
+}
+
 // Makes the stores at least as long as this. What is added are rows of the wholes, as good as any others.
 pub(crate) fn lengthen_all<A: Kind, R: Kind>(
     stores: &mut Stores<A::Row, R::Row>,
@@ -45,14 +58,7 @@ pub(crate) fn lengthen_all<A: Kind, R: Kind>(
 {
     let row = whole_packets(addresses, rests).row();
     let address = addresses.row();
-    let property = PropertyRow {
-        sort: Decision::Discard,
-        from: 0,
-        to: 0,
-        source: address,
-        destination: address,
-        rest: rests.row(),
-    };
+    let property = whole_property(addresses, rests);
     lengthen(&mut stores.rules, lent.rules, Entry { row, outcome: 0 })?;
     lengthen(
         &mut stores.blocks,
