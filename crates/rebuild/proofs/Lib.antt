@@ -1,0 +1,12 @@
+pub mod Each
+pub mod Behind
+pub mod Leads
+pub mod Accepting
+pub mod Order
+pub mod Regular
+pub mod Domains
+pub mod Blocks
+pub mod Lists
+pub mod Properties
+pub mod Modest
+pub mod Rebuilt
