@@ -4,6 +4,7 @@
 mod answers;
 mod apply;
 mod calls;
+mod listed;
 mod register;
 
 pub use register::Register;

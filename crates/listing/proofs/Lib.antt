@@ -1,0 +1,5 @@
+pub mod JoinedLines
+pub mod DomainLines
+pub mod RuleLines
+pub mod RowLines
+pub mod ListingParts
