@@ -49,8 +49,8 @@ spells_once (m ∷ marks) ns ms text (ds, x, later, is, number, value, s) (es, y
 bytes_small : (a : ℕ) → AtMost 255 (to_be_bytes w32 a)
 bytes_small a = (omega arith, (omega arith, (omega arith, (omega arith, tt))))
 
-pub number_back : (n : ℕ) → n < 2 ^ 32 → (most : ℕ) → n ≤ most → ReadsForm {X = ℕ} NUMBER (NumberOf most) (decimal n) (Ok n)
-number_back n few most fits = (n ∷ [], subst (Spells NUMBER (n ∷ [])) (append-nil (decimal n)) (form_spells NUMBER n [] refl (omega arith) tt), (refl, (fits, tt)))
+pub number_back : (n : ℕ) → n < 10 ^ 10 → (most : ℕ) → n ≤ most → ReadsForm {X = ℕ} NUMBER (NumberOf most) (decimal n) (Ok n)
+number_back n few most fits = (n ∷ [], subst (Spells NUMBER (n ∷ [])) (append-nil (decimal n)) (form_spells NUMBER n [] refl few tt), (refl, (fits, tt)))
 
 pub address_back : (a : ℕ) → a < 2 ^ 32 → ReadsForm {X = ℕ} ADDRESS AddressOf (address_text a) (Ok a)
 address_back a few = (

@@ -8,6 +8,7 @@ pub mod Hex
 pub mod Decisions
 pub mod Writing
 pub mod Back
+pub mod Short
 pub mod LettersBack
 pub mod Meant
 pub mod Once

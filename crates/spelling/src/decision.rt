@@ -1,5 +1,5 @@
 // Decisions as letters.
-ghost use Rattle.std.specs.Prelude.{◌≡◌, MatchOption};
+ghost use Rattle.std.specs.Prelude.{◌≡◌, ◌≤◌, length, MatchOption};
 ghost use Rattle.model.specs.declared.rules.Decision.{Decision};
 ghost use Rattle.spelling.specs.Forms.{Only};
 ghost use Rattle.spelling.specs.Letters.{letter, decision_text, ReadsDecision};
@@ -54,6 +54,7 @@ fn letter_of(decision: Decision) -> u8
 // Writes the letter of a decision.
 pub fn put_decision(buf: &mut [u8], at: usize, decision: Decision) -> Result<usize, Full>
     ensures written { Puts buf.old buf.new at (decision_text decision) result }
+    ensures short { length (decision_text decision) ≤ 1 }
     ensures back { ReadsDecision (decision_text decision) (Ok decision) }
 {
     put_bytes(buf, at, &[letter_of(decision)])

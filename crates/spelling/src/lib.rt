@@ -17,7 +17,7 @@ pub use form::{ADDRESS, Mark, NUMBER, Numbers, PREFIX, RANGE};
 pub use read::{read_address, read_number, read_prefix, read_range};
 pub use scanning::scan;
 pub use sets::{put_set, read_set};
-pub use write::{put_address, put_number, put_prefix, put_range};
+pub use write::{put_address, put_bytes, put_number, put_prefix, put_range};
 
 #[cfg(test)]
 mod tests;

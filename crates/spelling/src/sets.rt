@@ -1,5 +1,5 @@
 // Sets as masks of eight hexadecimal digits.
-ghost use Rattle.std.specs.Prelude.{◌≡◌, ◌%◌, MatchOption, MatchResult};
+ghost use Rattle.std.specs.Prelude.{◌≡◌, ◌%◌, ◌≤◌, length, MatchOption, MatchResult};
 ghost use Rattle.std.specs.Char.{digit_char, digit_value};
 ghost use Rattle.std.specs.Str.Parse.{digits_value};
 ghost use Rattle.spelling.specs.Misfit.{Misfit};
@@ -85,6 +85,7 @@ fn hex_bytes(mask: u32) -> [u8; 8]
 // Writes the mask of a set.
 pub fn put_set(buf: &mut [u8], at: usize, set: Set) -> Result<usize, Full>
     ensures written { Puts buf.old buf.new at (set_text set) result }
+    ensures short { length (set_text set) ≤ 8 }
     ensures back { ReadsSet (set_text set) (Ok set) }
 {
     put_bytes(buf, at, &hex_bytes(set.mask()))

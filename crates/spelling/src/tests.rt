@@ -98,6 +98,8 @@ fn fields_are_written(rt: HostRuntime) -> Result<(), Fail> {
     assert!(rt; put_range(&mut buf, 34, ports).ok() == Some(40));
     assert!(rt; buf.as_slice().ends_with(b"fa_80-443"));
     assert!(rt; put_range(&mut buf, 35, ports).is_err());
+    assert!(rt; put_bytes(&mut buf, 38, b"ok").ok() == Some(40));
+    assert!(rt; buf.as_slice().ends_with(b"fa_880-ok"));
     assert!(rt;
         buf.as_slice()
             .starts_with(b"_7010.0.0.25510.1.0.0/160000000fa_8")

@@ -1,5 +1,5 @@
 // The fields of a line, written.
-ghost use Rattle.std.specs.Prelude.{◌≡◌, ℕ, ◌≤◌, ◌∷◌, decimal};
+ghost use Rattle.std.specs.Prelude.{◌≡◌, ℕ, ◌^◌, ◌<◌, ◌≤◌, ◌∷◌, length, decimal};
 ghost use Rattle.std.specs.Int.{w32, to_be_bytes};
 ghost use Rattle.spelling.specs.Meanings.{NumberOf, AddressOf, PrefixOf, RangeOf};
 ghost use Rattle.spelling.specs.Reads.{ReadsForm};
@@ -12,7 +12,7 @@ use tables::Full;
 
 // Writes some bytes from a place on; answers where they end. Where there is no room for them nothing
 // before the place is touched.
-pub(crate) fn put_bytes(buf: &mut [u8], at: usize, bytes: &[u8]) -> Result<usize, Full>
+pub fn put_bytes(buf: &mut [u8], at: usize, bytes: &[u8]) -> Result<usize, Full>
     ensures { Puts buf.old buf.new at bytes.now result }
 {
     if at > buf.len() || bytes.len() > buf.len() - at {
@@ -45,12 +45,13 @@ fn put_numbers<const N: usize>(
     Ok(end)
 }
 
-// Writes a number, without extra zeros.
-pub fn put_number(buf: &mut [u8], at: usize, number: u32) -> Result<usize, Full>
+// Writes a number, without extra zeros. Up to ten digits are read back.
+pub fn put_number(buf: &mut [u8], at: usize, number: u64) -> Result<usize, Full>
     ensures written { Puts buf.old buf.new at (decimal number) result }
-    ensures back { (most : ℕ) → number ≤ most → ReadsForm NUMBER (NumberOf most) (decimal number) (Ok number) }
+    ensures short { length (decimal number) ≤ 20 }
+    ensures back { number < 10 ^ 10 → (most : ℕ) → number ≤ most → ReadsForm NUMBER (NumberOf most) (decimal number) (Ok number) }
 {
-    put_decimal(buf, at, u64::from(number))
+    put_decimal(buf, at, number)
 }
 
 // The four bytes of an address, the highest first.
@@ -63,6 +64,7 @@ fn octets(address: u32) -> [u64; 4]
 // Writes the four bytes of an address.
 pub fn put_address(buf: &mut [u8], at: usize, address: u32) -> Result<usize, Full>
     ensures written { Puts buf.old buf.new at (address_text address) result }
+    ensures short { length (address_text address) ≤ 15 }
     ensures back { ReadsForm ADDRESS AddressOf (address_text address) (Ok address) }
 {
     let [first, second, third, fourth] = octets(address);
@@ -76,6 +78,7 @@ pub fn put_address(buf: &mut [u8], at: usize, address: u32) -> Result<usize, Ful
 // Writes a prefix.
 pub fn put_prefix(buf: &mut [u8], at: usize, prefix: Prefix) -> Result<usize, Full>
     ensures written { Puts buf.old buf.new at (prefix_text prefix) result }
+    ensures short { length (prefix_text prefix) ≤ 18 }
     ensures back { ReadsForm PREFIX PrefixOf (prefix_text prefix) (Ok prefix) }
 {
     let [first, second, third, fourth] = octets(prefix.address());
@@ -89,6 +92,7 @@ pub fn put_prefix(buf: &mut [u8], at: usize, prefix: Prefix) -> Result<usize, Fu
 // Writes a range.
 pub fn put_range(buf: &mut [u8], at: usize, range: Range) -> Result<usize, Full>
     ensures written { Puts buf.old buf.new at (range_text range) result }
+    ensures short { length (range_text range) ≤ 21 }
     ensures back { (most : ℕ) → range.hi ≤ most → ReadsForm RANGE (RangeOf most) (range_text range) (Ok range) }
 {
     let numbers = Numbers {
