@@ -1,0 +1,13 @@
+pub mod Phrases
+pub mod Fields
+pub mod Plain
+pub mod Back
+pub mod Bounds
+pub mod Bytes
+pub mod Cutting
+pub mod FieldRead
+pub mod NumberRead
+pub mod FieldsRead
+pub mod LinesOnce
+pub mod LineRead
+pub mod Begun

@@ -1,0 +1,10 @@
+pub mod Limits
+pub mod Faults
+pub mod Texts
+pub mod Lines
+pub mod Sayable
+pub mod Reading
+pub mod Steps
+pub mod Places
+pub mod Fields
+pub mod Built

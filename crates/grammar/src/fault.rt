@@ -1,0 +1,79 @@
+// Why a line says nothing, and where.
+ghost use Rattle.std.specs.Prelude.{◌≡◌};
+ghost use Rattle.grammar.specs.Faults.{cause_number, cause_of};
+
+use spelling::{NumberFault, Problem, RegionFault};
+
+// What the line itself finds, beside what its numbers and regions do.
+#[derive(Clone, Copy, Debug, PartialEq, Eq)]
+pub enum LineProblem {
+    // It has too many bytes, or one that is no printed character.
+    TooLong,
+    WrongByte,
+    // The first field is no letter of the thirteen.
+    NoLetter,
+    WrongCount,
+    // A field that should be a decision is none.
+    NoDecision,
+    // A number is below its bound.
+    TooSmall,
+}
+
+// What is wrong, by the layer that found it.
+#[derive(Clone, Copy, Debug, PartialEq, Eq)]
+pub enum Cause {
+    Line(LineProblem),
+    Region(RegionFault),
+    Number(NumberFault),
+}
+
+// What is wrong with a line, in which of its fields, counted from 1, and at which of its bytes,
+// counted from 0. Field 0 is the whole line.
+#[derive(Clone, Copy, Debug, PartialEq, Eq)]
+pub struct LineFault {
+    pub cause: Cause,
+    pub field: usize,
+    pub byte: usize,
+}
+
+impl LineProblem {
+    // The problem in a field of the line, at a byte of the line.
+    pub(crate) fn at(self, field: usize, byte: usize) -> LineFault
+        ensures { result ≡ record { cause = Cause.Line self; field = field; byte = byte } }
+    {
+        LineFault {
+            cause: Cause::Line(self),
+            field,
+            byte,
+        }
+    }
+}
+
+impl LineFault {
+    // The fault's number in the table, 13 to 16.
+    pub fn number(&self) -> u8
+        ensures { result ≡ cause_number self.now.cause }
+    {
+        match self.cause {
+            Cause::Line(LineProblem::TooLong | LineProblem::WrongByte) => 13,
+            Cause::Line(LineProblem::NoLetter | LineProblem::WrongCount) => 14,
+            Cause::Line(LineProblem::NoDecision)
+            | Cause::Region(RegionFault::Unfit)
+            | Cause::Number(NumberFault::NoDigit | NumberFault::TooManyDigits) => 15,
+            Cause::Line(LineProblem::TooSmall)
+            | Cause::Region(RegionFault::HostBits | RegionFault::LoAboveHi | RegionFault::Empty)
+            | Cause::Number(NumberFault::TooLarge) => 16,
+        }
+    }
+}
+
+impl From<Problem> for Cause {
+    ghost from_gives = { λ problem cause. cause ≡ cause_of problem };
+
+    fn from(problem: Problem) -> Cause {
+        match problem {
+            Problem::Number(fault) => Cause::Number(fault),
+            Problem::Region(fault) => Cause::Region(fault),
+        }
+    }
+}
