@@ -1,0 +1,4 @@
+pub mod Kinds
+pub mod Wholes
+pub mod Serve
+pub mod Intake
