@@ -1,2 +1,4 @@
 pub mod Sharing
 pub mod Bounds
+pub mod Relations
+pub mod Sides

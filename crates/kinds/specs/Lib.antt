@@ -1,4 +1,5 @@
 pub mod Words
+pub mod Related
 pub mod Made
 pub mod Range
 pub mod Prefix

@@ -14,6 +14,10 @@ Share {V} p q = (v : V) × p v × q v
 abbrev pub Inside : {V : Type 0} → (V → Type 0) → (V → Type 0) → Type 0
 Inside {V} p q = (v : V) → p v → q v
 
+-- x and y hold all of p between them
+abbrev pub Covered : {V : Type 0} → (V → Type 0) → (V → Type 0) → (V → Type 0) → Type 0
+Covered {V} p x y = (v : V) → p v → x v ⊎ y v
+
 -- p and q have the same values
 abbrev pub Exactly : {V : Type 0} → (V → Type 0) → (V → Type 0) → Type 0
 Exactly p q = Inside p q × Inside q p
@@ -39,6 +43,10 @@ MeetOf holds p q r = MatchOption r (Disjoint p q) (λ m. Common p q (holds m))
 -- what split answers: nothing exactly where p and q share no value or p lies inside q, else p's two parts
 abbrev pub SplitOf : {X V : Type 0} → (X → V → Type 0) → (V → Type 0) → (V → Type 0) → Option (X × X) → Type 0
 SplitOf holds p q r = MatchOption r (Disjoint p q ⊎ Inside p q) (λ ab. Parted p q (holds ab.0) (holds ab.1))
+
+-- what is answered where r may lie in both p and q: nothing exactly where it does not, else the region of their common values
+abbrev pub CommonAround : {X V : Type 0} → (X → V → Type 0) → (V → Type 0) → (V → Type 0) → (V → Type 0) → Option X → Type 0
+CommonAround holds r p q o = MatchOption o (Inside r p × Inside r q → ⊥) (λ m. Inside r p × Inside r q × Common p q (holds m))
 
 -- there is a value in p
 abbrev pub Inhabited : {V : Type 0} → (V → Type 0) → Type 0

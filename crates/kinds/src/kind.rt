@@ -1,6 +1,9 @@
 // The trait of a field kind.
 ghost use Rattle.std.specs.Prelude.{◌≡◌, Some, Decides, Option};
-ghost use Rattle.kinds.specs.Words.{MeetOf, SplitOf, Finite, Inhabited, Decided};
+ghost use Rattle.kinds.specs.Words.{MeetOf, SplitOf, Finite, Inhabited, Decided, Disjoint, Inside, Covered};
+ghost use Rattle.kinds.specs.Related.{Related};
+
+use crate::relation::Relation;
 
 // A field kind, implemented by the type of its regions. A region holds at least one value, and
 // finitely many; a kind is known by nothing but which values its regions hold.
@@ -34,6 +37,43 @@ pub trait Kind: Copy {
     // Some value that the region holds.
     fn pick(self) -> Self::Value
         ensures { holds self result };
+
+    /// How this region lies to the other. The body asks for what they have in common and for a
+    /// cut; a kind that can tell at once says so.
+    fn relation(self, other: Self) -> Relation
+        ensures { Related (holds self) (holds other) result }
+    {
+        let Some(_) = self.meet(other) else {
+            return Relation::Apart;
+        };
+        match self.split(other) {
+            None => Relation::Inside,
+            Some(_) => Relation::Crossing,
+        }
+    }
+
+    /// A region that holds this one, and nothing that neither of two others holds, which hold this
+    /// one between them. The larger it is the less a search has to look at; the body answers this
+    /// one itself.
+    fn resolve(self, one: Self, other: Self) -> Self
+        requires { Covered (holds self) (holds one) (holds other) }
+        ensures holds { Inside (holds self) (holds result) }
+        ensures within { Covered (holds result) (holds one) (holds other) }
+    {
+        self
+    }
+
+    /// A region that holds this one, inside `wide` and apart from `other`. The larger it is the
+    /// less a search has to look at; the body answers this one itself.
+    fn separate(self, wide: Self, other: Self) -> Self
+        requires inside { Inside (holds self) (holds wide) }
+        requires apart { Disjoint (holds self) (holds other) }
+        ensures holds { Inside (holds self) (holds result) }
+        ensures within { Inside (holds result) (holds wide) }
+        ensures clear { Disjoint (holds result) (holds other) }
+    {
+        self
+    }
 
     fn row(self) -> Self::Row
         ensures { result ≡ plain self };

@@ -6,6 +6,7 @@ mod kind;
 mod pair;
 mod prefix;
 mod range;
+mod relation;
 mod set;
 
 pub use forms::{
@@ -16,4 +17,5 @@ pub use kind::Kind;
 pub use pair::Pair;
 pub use prefix::{Prefix, PrefixRow};
 pub use range::{Range, RangeRow};
+pub use relation::{Relation, lies_inside, share_a_value};
 pub use set::{Set, SetRow};
