@@ -1,8 +1,9 @@
-pub mod Relations
 pub mod Positions
 pub mod Skipped
 pub mod Along
 pub mod Walks
 pub mod Sizes
+pub mod Cutting
+pub mod Without
 pub mod Stack
-pub mod Weight
+pub mod Measure

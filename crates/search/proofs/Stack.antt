@@ -1,182 +1,167 @@
--- The frames of a search: what they hold, and what they weigh.
-use Rattle.std.proofs.Common.{◌≡◌, ℕ, suc, ◌+◌, ◌<◌, ◌≤◌, List, [], length, set, Some, None, Option, sym, ap, ◌∙◌, subst, subst₂, inl, inr, arith, length-set, MatchOption}
+-- What the frames of a search keep.
+use Rattle.std.proofs.Common.{◌≡◌, ℕ, zero, suc, ◌+◌, ◌<◌, ◌≤◌, ◌⊎◌, List, [], ◌∷◌, length, set, Some, None, Option, sym, refl, ap, ◌∙◌, subst, inl, inr, arith, length-set}
 use mathlib.Core.List.{Memᴰ}
-use native.Mathlib.Decide.{ℕ_discrete}
 use Rattle.std.specs.List.{slice_get}
-use Rattle.kinds.specs.Words.{Inside, Finite}
-use Rattle.search.specs.List.{row_holds, Says, Meets}
-use Rattle.search.specs.Walk.{Clear, Hopeless, CutAt}
-use Rattle.search.specs.declared.list.Entry.{Entry}
-use Rattle.search.specs.declared.list.Match.{Match}
-use Rattle.search.specs.declared.list.Wish.{Wish}
+use Rattle.kinds.specs.Words.{Disjoint, Inside, Covered, Common}
+use Rattle.kinds.specs.Related.{Related}
+use Rattle.kinds.specs.declared.relation.Relation.TheVariants.{Crossing}
+use Rattle.search.specs.Cut.{Parting, Learned, Begun}
+use Rattle.search.specs.Frames.{row_of, cut_of, KeptAt, IsKeptAt}
+use Rattle.search.specs.declared.cut.Cut.{Cut}
+use Rattle.search.specs.declared.engine.Focus as focus
+use Rattle.search.specs.declared.engine.Focus.{Focus}
 use Rattle.search.specs.declared.frames.Frame.{Frame}
 use Rattle.search.proofs.Positions.{nth_set_same, nth_set_other}
-use Rattle.search.proofs.Walks.{clear_inside}
+use Rattle.search.proofs.Without.{Mem_without}
 
--- an Option is one thing
-some_one : {X : Type 0} (o : Option X) (x y : X) → o ≡ Some x → o ≡ Some y → x ≡ y
-some_one o x y a b = cc
+some_one : {Y : Type 0} {x y : Y} → Some x ≡ Some y → x ≡ y
+some_one e = cc
 
--- The target of a search is read off its frames as the loop finds them: it is in the first.
-module _ {X V W : Type 0} (holds : X → V → Type 0) (region : W → Option X) where
-  region_at : Option (Frame W) → Option X
-  region_at None = None
-  region_at (Some f) = region f.row
+-- a cut region reads back from its row
+pub reads_row : {X W : Type 0} (plain : X → W) (region : W → Option X) → ((x : X) → region (plain x) ≡ Some x) → (c : Cut X) → cut_of region (row_of plain c) ≡ Some c
+reads_row plain region rereads c = rw (rereads c.region, rereads c.barren, rereads c.joint) refl
 
-  pub start : List (Frame W) → Option X
-  start fs = region_at (slice_get fs 0)
+module _ {X V W : Type 0} (holds : X → V → Type 0) (region : W → Option X) (wished : V → Type 0) (entries : List X) (target : X) where
+  -- e cuts x: it shares a value with x, and does not hold all of it
+  abbrev pub Crosses : X → X → Type 0
+  Crosses x e = Related (holds x) (holds e) Crossing
 
-  -- what a region holds, if there is one
-  abbrev pub Within : Option X → V → Type 0
-  Within o v = MatchOption o ⊥ (λ x. holds x v)
+  -- what is known of a cut region while its part x is looked at
+  pub record Keeps (c : Cut X) (x : X) : Type 0 where
+    pub part : Inside (holds x) (holds c.joint)
+    pub within : Inside (holds c.joint) (holds c.region)
+    pub covered : Covered (holds c.joint) (holds x) (holds c.barren)
+    pub shared : (v : V) → holds c.region v → holds c.barren v → holds c.joint v
+    pub entry : X
+    pub member : Memᴰ entry entries
+    pub cuts : Crosses c.region entry
+    pub rest : (v : V) → holds c.region v → holds entry v → holds c.barren v
+    pub uncut : Crosses x entry → ⊥
+    pub known : Inside (holds c.joint) (holds x) ⊎ Disjoint (holds c.barren) wished
 
-  pub start_is : (fs : List (Frame W)) (f : Frame W) (x : X) → 0 < length fs → region f.row ≡ Some x → start (set fs 0 f) ≡ Some x
-  unfolding start region_at
-  start_is fs f x some reads = ap region_at (nth_set_same fs 0 f some) ∙ reads
+  -- the first n frames are those of regions cut one inside the other, the last one's part being x
+  abbrev pub Stack : List (Frame W) → ℕ → X → Type 0
+  Stack fs zero x = Inside (holds x) (holds target) × Inside (holds target) (holds x)
+  Stack fs (suc n) x = (f : Frame W) × (c : Cut X) × (slice_get fs n ≡ Some f) × (cut_of region f ≡ Some c) × Keeps c x × Stack fs n c.region
 
-  abbrev pub listing : ((x : X) → Finite (holds x)) → Option X → List V
-  listing finite None = []
-  listing finite (Some x) = (finite x).0
+  pub stack_inside : (fs : List (Frame W)) (n : ℕ) (x : X) → Stack fs n x → Inside (holds x) (holds target)
+  stack_inside fs zero x s v h = s.0 v h
+  stack_inside fs (suc n) x (f, c, at, reads, keeps, below) v h = stack_inside fs n c.region below v (keeps.within v (keeps.part v h))
 
-  pub within_listed : (finite : (x : X) → Finite (holds x)) (o : Option X) (v : V) → Within o v → Memᴰ v (listing finite o)
-  within_listed finite None v h = absurd h
-  within_listed finite (Some x) v h = (finite x).1 v h
+  pub stack_set : (fs : List (Frame W)) (n i : ℕ) (f : Frame W) (x : X) → n ≤ i → Stack fs n x → Stack (set fs i f) n x
+  stack_set fs zero i f x le s = s
+  stack_set fs (suc n) i f x le (g, c, at, reads, keeps, below) =
+      (g, c, nth_set_other fs i n f (λ e. let z : n < n = omega arith in omega arith) ∙ at, reads, keeps, stack_set fs n i f c.region (omega arith) below)
 
-module _ {X V W : Type 0} (holds : X → V → Type 0) (region : W → Option X) (es : List (Entry W)) (target : V → Type 0) where
-  -- the frame at place k: a part of the target that no entry before its position meets
-  pub record FrameOk (k : ℕ) (f : Frame W) : Type 0 where
-    pub part : X
-    pub reads : region f.row ≡ Some part
-    pub inside : Inside (holds part) target
-    pub clear : Clear (row_holds holds region) es f.position (holds part)
-    pub low : k ≤ f.position
-    pub high : f.position ≤ length es
+  -- room for one frame for each entry that may still cut
+  pub record Room (n : ℕ) (x : X) : Type 0 where
+    pub left : List X
+    pub few : n + length left ≤ length entries
+    pub has : (e : X) → Memᴰ e entries → Crosses x e → Memᴰ e left
 
-  -- the frame at place k holds v
-  abbrev pub Lies : List (Frame W) → ℕ → V → Type 0
-  Lies fs count v = (k : ℕ) × (f : Frame W) × (k < count) × (slice_get fs k ≡ Some f) × row_holds holds region f.row v
-
-  -- the first count frames hold every wished value of the target
-  pub record Held (wish : Wish) (fs : List (Frame W)) (count : ℕ) : Type 0 where
-    pub room : length es < length fs
-    pub few : count ≤ length fs
-    pub each : (k : ℕ) (f : Frame W) → k < count → slice_get fs k ≡ Some f → FrameOk k f
-    pub all : (v : V) (m : Option Match) → target v → Says (row_holds holds region) es v m → Meets wish m → Lies fs count v
-
-  row_of : (w : W) (x : X) (v : V) → region w ≡ Some x → holds x v → row_holds holds region w v
-  row_of w x v e h = subst (λ o. MatchOption o ⊥ (λ y. holds y v)) (sym e) h
-
-  of_row : (w : W) (x : X) (v : V) → region w ≡ Some x → row_holds holds region w v → holds x v
-  of_row w x v e h = subst (λ o. MatchOption o ⊥ (λ y. holds y v)) e h
-
-  -- the whole target in one frame
-  pub held_start : (wish : Wish) (fs : List (Frame W)) (f : Frame W) (x : X) → length es < length fs → region f.row ≡ Some x → f.position ≡ 0 → Inside (holds x) target → Inside target (holds x) → Held wish (set fs 0 f) 1
-  held_start wish fs f x room reads at into out =
-      let here = nth_set_same fs 0 f (omega arith) in
+  room_less : (n : ℕ) (x : X) (c : Cut X) → Keeps c x → Room n c.region → Room (suc n) x
+  room_less n x c k r =
+      let without = Mem_without k.entry r.left (r.has k.entry k.member k.cuts) in
       record {
-        room = subst (λ n. length es < n) (sym (length-set fs 0 f)) room;
-        few = subst (λ n. 1 ≤ n) (sym (length-set fs 0 f)) (omega arith);
-        each = λ k g lt there.
-            let first : k ≡ 0 = omega arith in
-            let same : f ≡ g = some_one _ f g here (ap (slice_get (set fs 0 f)) (sym first) ∙ there) in
-            subst (FrameOk k) same (record { part = x; reads = reads; inside = into; clear = λ j y less. absurd (omega arith); low = omega arith; high = omega arith });
-        all = λ v m h says met. (0, f, omega arith, here, row_of f.row x v reads (out v h));
+        left = without.0;
+        few = let shorter = without.1 in let few = r.few in omega arith;
+        has = λ e m cross.
+            without.2 e (r.has e m ((cross.0.0, k.within cross.0.0 (k.part cross.0.0 cross.0.1), cross.0.2), λ i. cross.1 (λ v h. i v (k.within v (k.part v h)))))
+            (λ same. k.uncut (subst (Crosses x) same cross));
       }
 
-  module _ {wish : Wish} {fs : List (Frame W)} {n count : ℕ} {top : Frame W} (last : count ≡ suc n) (at_top : slice_get fs n ≡ Some top) (held : Held wish fs count) where
-    pub top_ok : FrameOk n top
-    top_ok = held.each n top (omega arith) at_top
+  stack_room : (fs : List (Frame W)) (n : ℕ) (x : X) → Stack fs n x → Room n x
+  stack_room fs zero x s = record { left = entries; few = omega arith; has = λ e m _. m }
+  stack_room fs (suc n) x (f, c, at, reads, keeps, below) = room_less n x c keeps (stack_room fs n c.region below)
 
-    part_is : (x : X) → region top.row ≡ Some x → top_ok.part ≡ x
-    part_is x reads = some_one _ top_ok.part x top_ok.reads reads
+  -- an entry that cuts finds a frame
+  pub room_one : (fs : List (Frame W)) (n : ℕ) (x e : X) → Stack fs n x → Memᴰ e entries → Crosses x e → n < length entries
+  room_one fs n x e s m c =
+      let room = stack_room fs n x s in
+      let without = Mem_without e room.left (room.has e m c) in
+      let few = room.few in
+      let shorter = without.1 in
+      omega arith
 
-    pub top_inside : (x : X) → region top.row ≡ Some x → Inside (holds x) target
-    top_inside x reads = subst (λ y. Inside (holds y) target) (part_is x reads) top_ok.inside
+  -- a region is cut
+  pub keeps_begun : (c : Cut X) (x e : X) → Begun holds x (holds e) c → Memᴰ e entries → Crosses x e → Keeps c c.joint
+  keeps_begun c x e b m cross = record {
+    part = λ v h. h;
+    within = λ v h. subst (λ y. holds y v) (sym b.region) (b.common.left v h);
+    covered = λ v h. inl h;
+    shared = λ v h k. subst (λ y. holds y v) b.same k;
+    entry = e;
+    member = m;
+    cuts = subst (λ y. Crosses y e) (sym b.region) cross;
+    rest = λ v h k. subst (λ y. holds y v) (sym b.same) (b.common.all v (subst (λ y. holds y v) b.region h) k);
+    uncut = λ k. k.1 b.common.right;
+    known = inl (λ v h. h);
+  }
 
-    pub top_clear : (x : X) → region top.row ≡ Some x → Clear (row_holds holds region) es top.position (holds x)
-    top_clear x reads = subst (λ y. Clear (row_holds holds region) es top.position (holds y)) (part_is x reads) top_ok.clear
+  -- nothing is wished in what is learned
+  pub learned_barren : (c : Cut X) (x : X) (r s : V → Type 0) → Keeps c x → Inside (holds x) r → Disjoint r wished → Learned (holds c.joint) r (holds c.barren) s → Disjoint s wished
+  learned_barren c x r s k inside barren l v h = elim k.known [
+    | inl all ↦ barren v (l.known (λ u i. inside u (all u i)) v h)
+    | inr none ↦ elim (l.within v h) [ inl a ↦ barren v a | inr b ↦ none v b ]
+  ]
 
-    -- the top frame has no wished value
-    pub held_drop : (x : X) → region top.row ≡ Some x → Hopeless (row_holds holds region) es wish (holds x) → Held wish fs n
-    held_drop x reads none = record {
-      room = held.room;
-      few = omega (arith, held.few);
-      each = λ k f lt there. held.each k f (omega arith) there;
-      all = λ v m h says met.
-          let (k, f, lt, there, lies) = held.all v m h says met in
-          elim (ℕ_discrete k n) [
-            | yes same ↦
-                let alike : f ≡ top = some_one _ f top there (ap (slice_get fs) same ∙ at_top) in
-                absurd (none v m (of_row top.row x v reads (subst (λ (g : Frame W). row_holds holds region g.row v) alike lies)) says met)
-            | no other ↦ (k, f, omega arith, there, lies)
-          ];
-    }
+  -- what is joined lies in a region around the part, and in what is barren
+  pub covered_around : (c : Cut X) (x : X) (r : V → Type 0) → Keeps c x → Inside (holds x) r → Covered (holds c.joint) r (holds c.barren)
+  covered_around c x r k inside v h = elim (k.covered v h) [ inl a ↦ inl (inside v a) | inr b ↦ inr b ]
 
-    -- a frame that is cut leaves room for one more
-    pub room_top : (at : ℕ) → top.position ≤ at → at < length es → count < length fs
-    room_top at low high = omega (arith, top_ok.low, held.room)
+  -- the next part is looked at
+  pub keeps_rest : (c d : Cut X) (x y : X) (r : V → Type 0) → Keeps c x → Inside (holds x) r → Disjoint r wished → d.region ≡ c.region → Learned (holds c.joint) r (holds c.barren) (holds d.barren) → Parting (holds c.region) (holds d.barren) (holds d.joint) (holds y) → Keeps d y
+  keeps_rest c d x y r k inside barren same l p = record {
+    part = p.part;
+    within = λ v h. subst (λ z. holds z v) (sym same) (p.within v h);
+    covered = p.covered;
+    shared = λ v h i. p.joint v (subst (λ z. holds z v) same h) i;
+    entry = k.entry;
+    member = k.member;
+    cuts = subst (λ z. Crosses z k.entry) (sym same) k.cuts;
+    rest = λ v h i. let h' = subst (λ z. holds z v) same h in l.around v (k.shared v h' (k.rest v h' i));
+    uncut = λ cross.
+        let v = cross.0.0 in
+        let h = p.within v (p.part v cross.0.1) in
+        p.apart v cross.0.1 (l.around v (k.shared v h (k.rest v h cross.0.2)));
+    known = inr (learned_barren c x r (holds d.barren) k inside barren l);
+  }
 
-    -- the top frame is cut in two
-    module _ {x a b : X} {fa fb : Frame W} (reads : region top.row ≡ Some x) (ra : region fa.row ≡ Some a) (rb : region fb.row ≡ Some b)
-        (cut : CutAt (row_holds holds region) es (holds x) (holds a) (holds b) top.position fa.position) (next : fb.position ≡ fa.position + 1) where
-      abbrev pub after : List (Frame W)
-      after = set (set fs n fa) count fb
+  -- what is known while the search goes on
+  abbrev pub Held : List (Frame W) → ℕ → Focus X → Type 0
+  Held fs n (focus.TheVariants.Open x) = Stack fs n x
+  Held fs n (focus.TheVariants.Barren r) = (x : X) × Stack fs n x × Inside (holds x) (holds r) × Disjoint (holds r) wished
 
-      room : count < length fs
-      room = room_top fa.position cut.low cut.high
+  module _ (fs : List (Frame W)) (n : ℕ) where
+    pub held_cut : (d : ℕ) (x e : X) (c : Cut X) (f : Frame W) → d ≡ suc n → Stack fs n x → Memᴰ e entries → Crosses x e → Begun holds x (holds e) c → cut_of region f ≡ Some c → n < length fs → Stack (set fs n f) d c.joint
+    held_cut d x e c f next s m cross b reads lt =
+        subst (λ k. Stack (set fs n f) k c.joint) (sym next)
+        (f, c, nth_set_same fs n f lt, reads, keeps_begun c x e b m cross, subst (Stack (set fs n f) n) (sym b.region) (stack_set fs n n f x (omega arith) s))
 
-      at_a : slice_get after n ≡ Some fa
-      at_a = nth_set_other (set fs n fa) count n fb (omega arith) ∙ nth_set_same fs n fa (omega (arith, room))
+    pub held_rest : (k : ℕ) (x : X) (r : V → Type 0) (g : Frame W) (c d : Cut X) (y : X) → Keeps c x → Stack fs n c.region → Inside (holds x) r → Disjoint r wished → d.region ≡ c.region → Learned (holds c.joint) r (holds c.barren) (holds d.barren) → Parting (holds c.region) (holds d.barren) (holds d.joint) (holds y) → cut_of region g ≡ Some d → n < length fs → k ≡ suc n → Stack (set fs n g) k y
+    held_rest k x r g c d y keeps below inside barren same l p reads lt next =
+        subst (λ j. Stack (set fs n g) j y) (sym next)
+        (g, d, nth_set_same fs n g lt, reads, keeps_rest c d x y r keeps inside barren same l p, subst (Stack (set fs n g) n) (sym same) (stack_set fs n n g c.region (omega arith) below))
 
-      at_b : slice_get after count ≡ Some fb
-      at_b = nth_set_same (set fs n fa) count fb (subst (λ k. count < k) (sym (length-set fs n fa)) room)
+    pub held_open : (f : Focus X) (x : X) → f ≡ focus.TheVariants.Open x → Held fs n f → Stack fs n x
+    held_open f x e h = subst (Held fs n) e h
 
-      at_other : (k : ℕ) → k < n → slice_get after k ≡ slice_get fs k
-      at_other k lt = nth_set_other (set fs n fa) count k fb (omega arith) ∙ nth_set_other fs n k fa (omega arith)
+    pub held_barren : (f : Focus X) (r : X) → f ≡ focus.TheVariants.Barren r → Held fs n f → (x : X) × Stack fs n x × Inside (holds x) (holds r) × Disjoint (holds r) wished
+    held_barren f r e h = subst (Held fs n) e h
 
-      inside_top : Inside (holds x) target
-      inside_top = top_inside x reads
+    -- what stands at the top frame, and what is below
+    pub top_there : (d : ℕ) (x : X) → d ≡ suc n → Stack fs d x → KeptAt region fs n
+    top_there d x e s = let (f, c, at, reads, keeps, below) = subst (λ k. Stack fs k x) e s in (c, (f, at, reads))
 
-      ok_a : FrameOk n fa
-      ok_a = record {
-        part = a;
-        reads = ra;
-        inside = λ v h. inside_top v (cut.halves.first v h);
-        clear = clear_inside (row_holds holds region) es (holds x) (holds a) fa.position cut.halves.first cut.clear;
-        low = let low = top_ok.low in omega (arith, cut.low);
-        high = omega (arith, cut.high);
-      }
+    pub top_known : (d : ℕ) (x : X) (c : Cut X) → d ≡ suc n → IsKeptAt region fs n c → Stack fs d x → Keeps c x × Stack fs n c.region
+    top_known d x c e (g, there, read) s =
+        let (f, b, at, reads, keeps, below) = subst (λ k. Stack fs k x) e s in
+        let alike : g ≡ f = some_one (sym there ∙ at) in
+        let same : b ≡ c = some_one (sym reads ∙ ap (cut_of region) (sym alike) ∙ read) in
+        (subst (λ a. Keeps a x) same keeps, subst (λ (a : Cut X). Stack fs n a.region) same below)
 
-      ok_b : FrameOk count fb
-      ok_b = record {
-        part = b;
-        reads = rb;
-        inside = λ v h. inside_top v (cut.halves.second v h);
-        clear = subst (λ k. Clear (row_holds holds region) es k (holds b)) (sym next) cut.past;
-        low = let low = top_ok.low in omega (arith, cut.low);
-        high = omega (arith, cut.high);
-      }
+    pub held_whole : (x : X) (r : V → Type 0) (c : Cut X) (s : X) → Keeps c x → Stack fs n c.region → Inside (holds x) r → Disjoint r wished → Learned (holds c.joint) r (holds c.barren) (holds s) → Inside (holds c.region) (holds s) → Held fs n (focus.TheVariants.Barren s)
+    held_whole x r c s keeps below inside barren l all = (c.region, below, all, learned_barren c x r (holds s) keeps inside barren l)
 
-      pub held_cut : Held wish after (count + 1)
-      held_cut = record {
-        room = subst (λ k. length es < k) (sym (length-set (set fs n fa) count fb ∙ length-set fs n fa)) held.room;
-        few = subst (λ k. count + 1 ≤ k) (sym (length-set (set fs n fa) count fb ∙ length-set fs n fa)) (omega (arith, room));
-        each = λ k f lt there. elim (ℕ_discrete k count) [
-          | yes e ↦ subst₂ FrameOk (sym e) (some_one _ fb f at_b (ap (slice_get after) (sym e) ∙ there)) ok_b
-          | no ne ↦ elim (ℕ_discrete k n) [
-            | yes e ↦ subst₂ FrameOk (sym e) (some_one _ fa f at_a (ap (slice_get after) (sym e) ∙ there)) ok_a
-            | no other ↦ held.each k f (omega arith) (sym (at_other k (omega arith)) ∙ there)
-          ]
-        ];
-        all = λ v m h says met.
-            let (k, f, lt, there, lies) = held.all v m h says met in
-            elim (ℕ_discrete k n) [
-              | yes same ↦
-                  let alike : f ≡ top = some_one _ f top there (ap (slice_get fs) same ∙ at_top) in
-                  elim (cut.halves.all v (of_row top.row x v reads (subst (λ (g : Frame W). row_holds holds region g.row v) alike lies))) [
-                    | inl y ↦ (n, fa, omega arith, at_a, row_of fa.row a v ra y)
-                    | inr y ↦ (count, fb, omega arith, at_b, row_of fb.row b v rb y)
-                  ]
-              | no other ↦ (k, f, omega arith, at_other k (omega arith) ∙ there, lies)
-            ];
-      }
+  pub target_barren : (fs : List (Frame W)) (n : ℕ) (x : X) (r : V → Type 0) → n ≡ 0 → Stack fs n x → Inside (holds x) r → Disjoint r wished → Disjoint (holds target) wished
+  target_barren fs n x r e s inside barren v h = barren v (inside v ((subst (λ k. Stack fs k x) e s).1 v h))

@@ -1,4 +1,5 @@
 pub mod First
 pub mod List
-pub mod Walk
-pub mod Answer
+pub mod Question
+pub mod Cut
+pub mod Frames

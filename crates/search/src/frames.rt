@@ -1,93 +1,72 @@
-// The search, over lent frames.
-ghost use Rattle.std.specs.Prelude.{◌<◌, length};
-ghost use Rattle.search.specs.List.{row_holds};
-ghost use Rattle.search.specs.Answer.{Answered, Searched};
+// The frames that a search works in.
+ghost use Rattle.std.specs.Prelude.{◌≡◌, ◌<◌, length, slice_set};
+ghost use Rattle.search.specs.Frames.{row_of, cut_of, KeptAt, IsKeptAt};
 
-use crate::list::{Entry, Match, Wish};
-use crate::walk::{Step, follow};
+use crate::cut::Cut;
 use kinds::Kind;
 
-// A part of the target that is still to be looked at, from this position of the list on.
+/// What a search keeps of a region that it has cut, in rows of its kind: the region, a part of it
+/// in which nothing is wished, and the part that is looked at joined to that. Frames that are lent
+/// may hold anything, and hold junk afterwards.
 #[derive(Clone, Copy)]
 pub struct Frame<R> {
-    pub row: R,
-    pub position: usize,
+    pub region: R,
+    pub barren: R,
+    pub joint: R,
 }
 
-// A value with an outcome as wished, and the entry that decides it, if one does.
-#[derive(Clone, Copy)]
-pub struct Found<V> {
-    pub value: V,
-    pub decided: Option<Match>,
-}
-
-// There are fewer frames than entries plus one.
-#[derive(Clone, Copy, Debug, PartialEq)]
-pub struct TooShort;
-
-/// Looks for a value of the target whose outcome in the list is as wished, as [`find`] does, and
-/// tests first whether the frames are more than the entries: for who has not counted them.
-pub fn search<K: Kind>(
-    list: &[Entry<K::Row>],
-    target: K,
-    wish: Wish,
-    frames: &mut [Frame<K::Row>],
-) -> Result<Option<Found<K::Value>>, TooShort>
-    ensures { Searched (row_holds K.Kind.holds K.Kind.region) list.now (K.Kind.holds target) wish (length frames.old) result }
-{
-    if frames.len() <= list.len() {
-        return Err(TooShort);
-    }
-    Ok(find(list, target, wish, frames))
-}
-
-// Looks for a value of the target whose outcome in the list is as wished.
-//
-// The frames are a stack. The top one follows the list until an entry holds all of it, which
-// settles it, or cuts it: then the part that meets the entry stays, and the other part goes on top
-// from the next position. So positions rise up the stack, and one frame more than entries is enough.
-pub fn find<K: Kind>(
-    list: &[Entry<K::Row>],
-    target: K,
-    wish: Wish,
-    frames: &mut [Frame<K::Row>],
-) -> Option<Found<K::Value>>
-    requires { length list.now < length frames.old }
-    ensures { Answered (row_holds K.Kind.holds K.Kind.region) list.now (K.Kind.holds target) wish result }
-{
-    frames[0] = Frame {
-        row: target.row(),
-        position: 0,
-    };
-    // Fixed memory: the stack lies in the frames lent, and this is how many of them it has.
-    let mut count = 1;
-    while count > 0 {
-        let top = frames[count - 1];
-        let Some(region) = K::read(top.row) else {
-            unreachable()
-        };
-        match follow(list, region, top.position, wish) {
-            Step::Drop => count -= 1,
-            Step::Found(decided) => return Some(Found {
-                value: region.pick(),
-                decided,
-            }),
-            Step::Cut {
-                position,
-                meeting,
-                apart,
-            } => {
-                frames[count - 1] = Frame {
-                    row: meeting.row(),
-                    position,
-                };
-                frames[count] = Frame {
-                    row: apart.row(),
-                    position: position + 1,
-                };
-                count += 1;
-            }
+impl<R: Copy> Frame<R> {
+    /// A frame with this row in all its places: what new memory for frames can be filled with.
+    pub fn filled(row: R) -> Frame<R>
+        ensures { result ≡ record { region = row; barren = row; joint = row } }
+    {
+        Frame {
+            region: row,
+            barren: row,
+            joint: row,
         }
     }
-    None
+}
+
+impl<K: Kind> Cut<K> {
+    // As it lies in a frame.
+    pub(crate) fn row(self) -> Frame<K::Row>
+        ensures { result ≡ row_of K.Kind.plain self }
+    {
+        Frame {
+            region: self.region.row(),
+            barren: self.barren.row(),
+            joint: self.joint.row(),
+        }
+    }
+
+    // The cut region of a frame; nothing where a row reads as nothing.
+    pub(crate) fn read(frame: Frame<K::Row>) -> Option<Cut<K>>
+        ensures { result ≡ cut_of K.Kind.region frame }
+    {
+        Some(Cut {
+            region: K::read(frame.region)?,
+            barren: K::read(frame.barren)?,
+            joint: K::read(frame.joint)?,
+        })
+    }
+}
+
+// Writes a cut region into a frame.
+pub(crate) fn keep<K: Kind>(frames: &mut [Frame<K::Row>], at: usize, cut: Cut<K>)
+    requires { at < length frames.old }
+    ensures { frames.new ≡ slice_set frames.old at (row_of K.Kind.plain cut) }
+{
+    frames[at] = cut.row();
+}
+
+// The cut region of a frame that was written.
+pub(crate) fn kept<K: Kind>(frames: &[Frame<K::Row>], at: usize) -> Cut<K>
+    requires { KeptAt K.Kind.region frames.now at }
+    ensures { IsKeptAt K.Kind.region frames.now at result }
+{
+    let Some(cut) = Cut::read(frames[at]) else {
+        unreachable()
+    };
+    cut
 }

@@ -1,13 +1,16 @@
 // Lists of regions with outcomes, first match, and the search for a value with a wished outcome.
 #![tactic(auto)]
 
+mod cut;
+mod engine;
 mod frames;
 mod list;
 mod lookup;
-mod relation;
-mod walk;
+mod question;
 
-pub use frames::{Found, Frame, TooShort, find, search};
+pub use engine::explore;
+pub use frames::Frame;
+pub use kinds::{lies_inside, share_a_value};
 pub use list::{Entry, Match, Wish};
 pub use lookup::outcome_of;
-pub use relation::{lies_inside, share_a_value};
+pub use question::{Look, Question};
