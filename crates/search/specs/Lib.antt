@@ -3,3 +3,4 @@ pub mod List
 pub mod Question
 pub mod Cut
 pub mod Frames
+pub mod View

@@ -7,6 +7,8 @@ mod frames;
 mod list;
 mod lookup;
 mod question;
+mod sight;
+mod view;
 
 pub use engine::explore;
 pub use frames::Frame;
@@ -14,3 +16,5 @@ pub use kinds::{lies_inside, share_a_value};
 pub use list::{Entry, Match, Wish};
 pub use lookup::outcome_of;
 pub use question::{Look, Question};
+pub use sight::Sight;
+pub use view::{View, Wished};

@@ -1,6 +1,7 @@
 // Lists and what is asked of them.
-ghost use Rattle.std.specs.Prelude.{Option, Decides};
+ghost use Rattle.std.specs.Prelude.{◌≡◌, Option, Decides};
 ghost use Rattle.search.specs.List.{Meets};
+ghost use Rattle.search.specs.View.{is_wanted};
 
 // A region, as a row of its kind, and the outcome number of the values that it is the first to hold.
 #[derive(Clone, Copy)]
@@ -24,14 +25,20 @@ pub enum Wish {
 }
 
 impl Wish {
-    // Whether this match, or that there is none, has an outcome as wished.
-    pub fn met_by(self, found: Option<Match>) -> bool
-        ensures { Decides result (Meets self found) }
+    // Whether an outcome is as wished.
+    pub(crate) fn wants(self, outcome: Option<u32>) -> bool
+        ensures { result ≡ is_wanted self outcome }
     {
-        let outcome = found.map(|entry| entry.outcome);
         match self {
             Wish::Is(wished) => outcome == wished,
             Wish::IsNot(wished) => outcome != wished,
         }
+    }
+
+    /// Whether this match, or that there is none, has an outcome as wished.
+    pub fn met_by(self, found: Option<Match>) -> bool
+        ensures { Decides result (Meets self found) }
+    {
+        self.wants(found.map(|entry| entry.outcome))
     }
 }
