@@ -7,3 +7,4 @@ pub mod Cutting
 pub mod Without
 pub mod Stack
 pub mod Measure
+pub mod Sights

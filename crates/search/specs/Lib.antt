@@ -4,3 +4,4 @@ pub mod Question
 pub mod Cut
 pub mod Frames
 pub mod View
+pub mod Look
