@@ -8,3 +8,5 @@ pub mod Without
 pub mod Stack
 pub mod Measure
 pub mod Sights
+pub mod Mapped
+pub mod Views

@@ -5,3 +5,4 @@ pub mod Cut
 pub mod Frames
 pub mod View
 pub mod Look
+pub mod Answer

@@ -1,8 +1,10 @@
 // Lists of regions with outcomes, first match, and the search for a value with a wished outcome.
 #![tactic(auto)]
 
+mod answer;
 mod cut;
 mod engine;
+
 mod frames;
 mod list;
 mod look;
@@ -12,6 +14,7 @@ mod sight;
 mod view;
 
 pub use engine::explore;
+pub use answer::{Found, TooShort, find, search};
 pub use frames::Frame;
 pub use kinds::{lies_inside, share_a_value};
 pub use list::{Entry, Match, Wish};
