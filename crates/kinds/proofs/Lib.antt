@@ -1,2 +1,3 @@
 pub mod Sharing
-pub mod Bounds
+pub mod Provided
+pub mod Bits

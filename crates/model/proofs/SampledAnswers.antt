@@ -3,7 +3,7 @@ use Rattle.std.proofs.Common.{◌≡◌, ℕ, ◌<◌, ◌≤◌, List, [], ◌�
 use Rattle.std.specs.List.{slice_get}
 use Rattle.kinds.specs.Range.{range_holds}
 use Rattle.kinds.specs.declared.range.Range.{Range}
-use Rattle.kinds.specs.Makes.{none_some}
+use Rattle.kinds.proofs.Provided.{none_some}
 use Rattle.search.proofs.Positions.{before_none, before_more, before_all}
 use Rattle.model.specs.Examples.{range}
 use Rattle.model.specs.Packets.{Matches, Decided, Accepted, Discarded}

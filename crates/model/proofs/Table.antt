@@ -8,10 +8,11 @@ use Rattle.kinds.specs.declared.range.Range.{Range}
 use Rattle.kinds.specs.declared.prefix.Prefix.{Prefix}
 use Rattle.kinds.specs.declared.set.Set.{Set}
 use Rattle.kinds.specs.FirstBits.{common_in}
-use Rattle.kinds.specs.Masks.{and_common, some_bit}
+use Rattle.kinds.specs.Masks.{some_bit}
+use Rattle.kinds.proofs.Bits.{and_common}
 use Rattle.model.specs.Examples.{Examples, range, prefix, ip, mask, range_rows, two_rules, one_block}
 use Rattle.search.proofs.Positions.{before_none, before_more, before_all}
-use Rattle.kinds.specs.Makes.{provided_cases, provided_fits}
+use Rattle.kinds.proofs.Provided.{provided_cases, provided_fits}
 use native.Mathlib.Decide.{dec_le}
 use Rattle.search.proofs.Relations.{meet_known, meet_nothing, split_nothing}
 
