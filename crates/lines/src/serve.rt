@@ -6,7 +6,8 @@ ghost use Rattle.lines.specs.Serve.{Replies, Serves};
 
 use crate::console::Console;
 use grammar::{Line, read_line};
-use kinds::{Kind, LongRest, Prefix};
+use forms::{LongRest, Prefix};
+use kinds::Kind;
 use model::Answer;
 use register::Memory;
 use replies::{MIN_ANSWER, Reply, put_reply};

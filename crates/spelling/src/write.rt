@@ -7,7 +7,7 @@ ghost use Rattle.spelling.specs.Writes.{Puts, form_text, address_text, prefix_te
 
 use crate::form::{ADDRESS, Mark, NUMBER, Numbers, PREFIX, RANGE};
 use itoa::Buffer;
-use kinds::{Prefix, Range};
+use forms::{Prefix, Range};
 use tables::Full;
 
 // Writes some bytes from a place on; answers where they end. Where there is no room for them nothing

@@ -2,12 +2,12 @@
 use Rattle.std.specs.Prelude.{◌≡◌, ℕ, ◌+◌, ◌-◌, ◌*◌, ◌%◌, ◌^◌, T, List, [], ◌∷◌, Some, None, Option, nat_le, nat_lt, refl}
 use Rattle.std.proofs.Common.{leb→le, ltb→lt}
 use Rattle.kinds.specs.Words.{Exactly, MeetOf, SplitOf}
-use Rattle.kinds.specs.Range.{range_holds, range_of}
-use Rattle.kinds.specs.Prefix.{prefix_holds}
+use Rattle.forms.specs.Range.{range_holds, range_of}
+use Rattle.forms.specs.Prefix.{prefix_holds}
 use Rattle.kinds.specs.Set.{set_holds}
-use Rattle.kinds.specs.declared.range.Range.{Range}
-use Rattle.kinds.specs.declared.range.RangeRow.{RangeRow}
-use Rattle.kinds.specs.declared.prefix.Prefix.{Prefix}
+use Rattle.forms.specs.declared.range.Range.{Range}
+use Rattle.forms.specs.declared.range.RangeRow.{RangeRow}
+use Rattle.forms.specs.declared.prefix.Prefix.{Prefix}
 use Rattle.kinds.specs.declared.set.Set.{Set}
 use Rattle.model.specs.Properties.{Of}
 use Rattle.model.specs.Shape.{Shape, Route, bare, attached, branched}

@@ -1,8 +1,8 @@
 -- Samples: each clause of the refusal table, and of the answers, at work in a small world whose addresses and rests are ranges.
 use Rattle.std.specs.Prelude.{◌≡◌, ℕ, ◌<◌, ◌≤◌, ◌⊎◌, List, [], ◌∷◌, length}
-use Rattle.kinds.specs.Range.{range_holds}
-use Rattle.kinds.specs.declared.range.Range.{Range}
-use Rattle.model.specs.Examples.{range, mask}
+use Rattle.forms.specs.Range.{range_holds}
+use Rattle.forms.specs.declared.range.Range.{Range}
+use Rattle.examples.specs.Examples.{range, mask}
 use Rattle.model.specs.Packets as packets
 use Rattle.model.specs.Record.{Right, Said, plain, Lawful}
 use Rattle.model.specs.Refusals.{Applies}

@@ -3,16 +3,16 @@ use Rattle.std.proofs.Common.{◌≡◌, ℕ, zero, suc, ◌/◌, ◌%◌, ◌^�
 use native.Mathlib.Decide.{ℕ_discrete}
 use Rattle.std.proofs.lemmas.Bool.{cases_lt}
 use Rattle.std.specs.List.{slice_get}
-use Rattle.kinds.specs.Range.{range_holds}
+use Rattle.forms.specs.Range.{range_holds}
 use Rattle.kinds.specs.Set.{set_holds}
-use Rattle.kinds.specs.declared.range.Range.{Range}
+use Rattle.forms.specs.declared.range.Range.{Range}
 use Rattle.kinds.proofs.Provided.{none_some}
 use Rattle.search.proofs.Positions.{before_none, before_more, before_all}
-use Rattle.model.specs.Examples.{range, mask}
+use Rattle.examples.specs.Examples.{range, mask}
 use Rattle.model.specs.Packets.{Matches, Decided, Unmatched, Accepted, Discarded}
 use Rattle.model.specs.Properties.{Of, BreaksIn, BreaksFirst}
 use Rattle.model.specs.Refusals.{Astray, SomeAstray, Misplaces, Broken, BreaksOne}
-use Rattle.model.specs.Samples.{Sources, Destinations, Matching, Placing, Keeping, World, whole, rule, property, packet, one, owned, letting, sieved, outward, inward, closed, closed_low, closed_high, crossing, fork, next}
+use Rattle.examples.specs.Samples.{Sources, Destinations, Matching, Placing, Keeping, World, whole, rule, property, packet, one, owned, letting, sieved, outward, inward, closed, closed_low, closed_high, crossing, fork, next}
 use Rattle.model.specs.Shape.{Route, Sound, bare}
 use Rattle.model.specs.Tree.{Block, all_interfaces, rules_of}
 use Rattle.model.specs.declared.calls.Call.TheVariants.{Give, Take, Place, Alter, Lift, Stand}
@@ -24,7 +24,7 @@ use Rattle.model.specs.declared.rules.Property.{Property}
 use Rattle.model.specs.declared.rules.Rule.{Rule}
 use Rattle.model.proofs.Growth.{sound_bare, sound_attached}
 use Rattle.model.proofs.Routes.{route_one}
-use Rattle.model.proofs.Sampled.{only_one, only_two, block}
+use Rattle.examples.proofs.Sampled.{only_one, only_two, block}
 
 -- the mask has every bit below n
 abbrev all_set : ℕ → ℕ → Bool

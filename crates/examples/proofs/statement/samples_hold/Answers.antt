@@ -1,8 +1,8 @@
-use Rattle.model.proofs.Sampled.{lengths, missing, interfaces, edges, wholes, sharing, joining}
-use Rattle.model.proofs.SampledEdits.{sources, destinations, matching, placing, keeping}
-use Rattle.model.proofs.SampledSorts.{sorts}
-use Rattle.model.proofs.SampledAnswers.{answering, asking, sending, recording, effects}
-use Rattle.model.proofs.examples.samples_hold.Goals as goal
+use Rattle.examples.proofs.Sampled.{lengths, missing, interfaces, edges, wholes, sharing, joining}
+use Rattle.examples.proofs.SampledEdits.{sources, destinations, matching, placing, keeping}
+use Rattle.examples.proofs.SampledSorts.{sorts}
+use Rattle.examples.proofs.SampledAnswers.{answering, asking, sending, recording, effects}
+use Rattle.examples.proofs.statement.samples_hold.Goals as goal
 
 pub returns : goal.returns
 returns c = record {

@@ -1,16 +1,16 @@
 -- The worked examples hold.
 use Rattle.std.proofs.Common.{ℕ, ◌≤◌, refl, inl, inr, arith}
 use Rattle.kinds.specs.Words.{Inhabited}
-use Rattle.kinds.specs.Range.{range_holds}
-use Rattle.kinds.specs.Prefix.{prefix_holds}
+use Rattle.forms.specs.Range.{range_holds}
+use Rattle.forms.specs.Prefix.{prefix_holds}
 use Rattle.kinds.specs.Set.{set_holds}
-use Rattle.kinds.specs.declared.range.Range.{Range}
-use Rattle.kinds.specs.declared.prefix.Prefix.{Prefix}
+use Rattle.forms.specs.declared.range.Range.{Range}
+use Rattle.forms.specs.declared.prefix.Prefix.{Prefix}
 use Rattle.kinds.specs.declared.set.Set.{Set}
-use Rattle.kinds.specs.FirstBits.{common_in}
+use Rattle.forms.proofs.Halves.{common_in}
 use Rattle.kinds.specs.Masks.{some_bit}
 use Rattle.kinds.proofs.Bits.{and_common}
-use Rattle.model.specs.Examples.{Examples, range, prefix, ip, mask, range_rows, two_rules, one_block}
+use Rattle.examples.specs.Examples.{Examples, range, prefix, ip, mask, range_rows, two_rules, one_block}
 use Rattle.search.proofs.Positions.{before_none, before_more, before_all}
 use Rattle.kinds.proofs.Provided.{provided_cases, provided_fits}
 use native.Mathlib.Decide.{dec_le}

@@ -1,13 +1,13 @@
 -- The samples of the refusals 1 to 7 hold.
 use Rattle.std.proofs.Common.{◌≡◌, ℕ, zero, suc, ◌⊎◌, [], ◌∷◌, Some, refl, ap, inl, inr, arith}
 use Rattle.std.specs.List.{slice_get}
-use Rattle.kinds.specs.Range.{range_holds}
+use Rattle.forms.specs.Range.{range_holds}
 use Rattle.kinds.specs.Words.{Share}
-use Rattle.kinds.specs.declared.range.Range.{Range}
+use Rattle.forms.specs.declared.range.Range.{Range}
 use Rattle.kinds.proofs.Provided.{none_some}
 use Rattle.search.proofs.Positions.{before_none, before_more, before_all}
-use Rattle.model.specs.Examples.{range}
-use Rattle.model.specs.Samples.{Lengths, Missing, Interfaces, Edges, Wholes, Sharing, Joining, one, owned, twice, chain}
+use Rattle.examples.specs.Examples.{range}
+use Rattle.examples.specs.Samples.{Lengths, Missing, Interfaces, Edges, Wholes, Sharing, Joining, one, owned, twice, chain}
 use Rattle.model.specs.Shape.{Joined}
 use Rattle.model.specs.Tree.{Block}
 use Rattle.model.specs.declared.path.Uplink.{Uplink}

@@ -1,16 +1,16 @@
 -- The samples of the answers hold.
 use Rattle.std.proofs.Common.{◌≡◌, ℕ, ◌<◌, ◌≤◌, List, [], ◌∷◌, Some, sym, refl, ap, subst, inl, inr, arith}
 use Rattle.std.specs.List.{slice_get}
-use Rattle.kinds.specs.Range.{range_holds}
-use Rattle.kinds.specs.declared.range.Range.{Range}
+use Rattle.forms.specs.Range.{range_holds}
+use Rattle.forms.specs.declared.range.Range.{Range}
 use Rattle.kinds.proofs.Provided.{none_some}
 use Rattle.search.proofs.Positions.{before_none, before_more, before_all}
-use Rattle.model.specs.Examples.{range}
+use Rattle.examples.specs.Examples.{range}
 use Rattle.model.specs.Packets.{Matches, Decided, Accepted, Discarded}
 use Rattle.model.specs.Properties.{BreaksIn, BreaksAt, BreaksFirst}
 use Rattle.model.specs.Record.{Way, Stops}
 use Rattle.model.specs.Refusals.{number}
-use Rattle.model.specs.Samples.{Answering, Asking, Sending, Recording, Effects, World, Refuses, whole, rule, property, packet, header, alone, one, owned, sieved, outward, inward, closed, chain, below, deep, downward, next}
+use Rattle.examples.specs.Samples.{Answering, Asking, Sending, Recording, Effects, World, Refuses, whole, rule, property, packet, header, alone, one, owned, sieved, outward, inward, closed, chain, below, deep, downward, next}
 use Rattle.model.specs.Shape.{Route, Sound}
 use Rattle.model.specs.Tree.{Block}
 use Rattle.model.specs.declared.answers.Refusal.{Refusal}
@@ -23,8 +23,8 @@ use Rattle.model.specs.declared.rules.Property.{Property}
 use Rattle.model.specs.declared.rules.Rule.{Rule}
 use Rattle.model.proofs.Growth.{sound_attached}
 use Rattle.model.proofs.Routes.{route_one}
-use Rattle.model.proofs.Sampled.{only_one, only_two, one_joined}
-use Rattle.model.proofs.SampledEdits.{owned_of, of_owner, of_zero, hop_in, route_in, sound_one, only_route, only_hop, first_break, decided_first, inward_broken, by_zero}
+use Rattle.examples.proofs.Sampled.{only_one, only_two, one_joined}
+use Rattle.examples.proofs.SampledEdits.{owned_of, of_owner, of_zero, hop_in, route_in, sound_one, only_route, only_hop, first_break, decided_first, inward_broken, by_zero}
 
 attach_none : (r : Refusal ℕ ℕ) → Refuses alone (Attach 0 0 1 Discard) r → ⊥
 attach_none TooShort h = omega arith

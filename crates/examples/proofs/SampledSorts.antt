@@ -1,6 +1,6 @@
 -- Which sorts of calls a refusal can have.
 use Rattle.std.proofs.Common.{ℕ, [], ◌∷◌, refl, inl, inr}
-use Rattle.model.specs.Samples.{Only, Sorts}
+use Rattle.examples.specs.Samples.{Only, Sorts}
 use Rattle.model.specs.declared.answers.Refusal.TheVariants.{BadInterface, Full, Outside, Overlap, Unjoined, SourceAstray, DestinationAstray, Unmatched, Misplaced, Breaks}
 use Rattle.model.specs.declared.calls.Call.TheVariants.{Attach, Branch, Give, Take, Place, Alter, Lift, Stand, Withdraw, Ask, Send}
 use Rattle.model.specs.declared.rules.Packet.{Packet}
