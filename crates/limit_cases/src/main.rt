@@ -9,7 +9,9 @@ mod session;
 mod sizes;
 
 use anyhow::ensure;
-use forms::{FlatRest, LongRest, Prefix, Range, flat_addresses, flat_rest, long_addresses, long_rest};
+use forms::{
+    FlatRest, LongRest, Prefix, Range, flat_addresses, flat_rest, long_addresses, long_rest,
+};
 use kinds::Kind;
 use limits::{Limits, run_all};
 use numbered::Numbered;

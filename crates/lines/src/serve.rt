@@ -5,8 +5,8 @@ ghost use Rattle.grammar.specs.declared.line.Line.TheVariants.{List};
 ghost use Rattle.lines.specs.Serve.{Replies, Serves};
 
 use crate::console::Console;
-use grammar::{Line, read_line};
 use forms::{LongRest, Prefix};
+use grammar::{Line, read_line};
 use kinds::Kind;
 use model::Answer;
 use register::Memory;

@@ -9,8 +9,8 @@ ghost use Rattle.restore.specs.Restored.{Listed, Takes, ReadsOn, Restores};
 ghost use Rattle.forms.specs.declared.prefix.Prefix.{Prefix};
 ghost use Rattle.grammar.specs.Lines.{LongRest};
 
-use grammar::{Line, MAX_NUMBER, put_line};
 use forms::{LongRest, Prefix};
+use grammar::{Line, MAX_NUMBER, put_line};
 use kinds::Kind;
 use lines::{Console, LongMemory};
 use model::{MAX_BLOCKS, MAX_DOMAINS, MAX_PROPERTIES, MAX_RULES};
