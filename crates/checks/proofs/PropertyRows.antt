@@ -3,7 +3,7 @@ use Rattle.std.proofs.Common.{◌≡◌, ℕ, ◌+◌, ◌≤◌, List, map, len
 use mathlib.Core.Path.{subst₃}
 use Rattle.std.proofs.lemmas.List.{length-map}
 use Rattle.std.specs.List.{slice_get}
-use Rattle.kinds.specs.Makes.{none_some}
+use Rattle.kinds.proofs.Provided.{none_some}
 use Rattle.search.specs.First.{First, Nowhere, Before}
 use Rattle.search.proofs.Positions.{before_more, before_all}
 use Rattle.model.specs.declared.rules.Property.{Property}

@@ -1,6 +1,7 @@
 // The console with its memory, and the line that is coming in.
 use anyhow::ensure;
-use kinds::{Kind, LongRest, Prefix, long_addresses, long_rest};
+use forms::{LongRest, Prefix, long_addresses, long_rest};
+use kinds::Kind;
 use lines::{Console, Intake, LongMemory};
 use replay::{Stores, least_lengths, stores_with};
 use replies::MIN_ANSWER;

@@ -1,5 +1,6 @@
 // The memory of a console.
-use kinds::{Kind, LongRest, Prefix, long_addresses, long_rest};
+use forms::{LongRest, Prefix, long_addresses, long_rest};
+use kinds::Kind;
 use lines::LongMemory;
 use register::Memory;
 use replay::{Stores, least_lengths, stores_with};

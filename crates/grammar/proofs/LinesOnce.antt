@@ -1,6 +1,6 @@
 -- A line is known by its verb and its values.
 use Rattle.std.proofs.Common.{◌≡◌, ℕ, refl, ap}
-use Rattle.kinds.specs.declared.prefix.Prefix as prefix
+use Rattle.forms.specs.declared.prefix.Prefix as prefix
 use Rattle.model.specs.declared.calls.Call.TheVariants as call
 use Rattle.model.specs.declared.rules.Header.{Header}
 use Rattle.model.specs.declared.rules.Property as property

@@ -1,8 +1,8 @@
 -- What a line says, by its letter and the values of its fields.
 use Rattle.std.specs.Prelude.{ℕ, List, [], ◌∷◌}
 use Rattle.kinds.specs.declared.pair.Pair.{Pair}
-use Rattle.kinds.specs.declared.prefix.Prefix as prefix
-use Rattle.kinds.specs.declared.range.Range as range
+use Rattle.forms.specs.declared.prefix.Prefix as prefix
+use Rattle.forms.specs.declared.range.Range as range
 use Rattle.model.specs.declared.calls.Call.{Call}
 use Rattle.model.specs.declared.calls.Call.TheVariants as call
 use Rattle.model.specs.declared.rules.Header.{Header}

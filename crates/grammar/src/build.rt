@@ -9,7 +9,8 @@ ghost use Rattle.grammar.specs.declared.value.Value.TheVariants as value;
 
 use crate::line::{Line, LongRestValue, Verb};
 use crate::value::Value;
-use kinds::{LongRest, Pair, Prefix};
+use forms::{LongRest, Prefix};
+use kinds::Pair;
 use model::{Call, Header, Property, Rule};
 
 type LongRule = Rule<Prefix, LongRest>;

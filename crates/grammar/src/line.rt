@@ -1,5 +1,6 @@
 // What a line says: thirteen verbs, each with its letter and the forms of its fields.
-use kinds::{LongRest, Pair, Prefix};
+use forms::{LongRest, Prefix};
+use kinds::Pair;
 use model::Call;
 
 // The values of the rest of a Long packet: source port, destination port, protocol.

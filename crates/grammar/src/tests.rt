@@ -1,6 +1,6 @@
 // Lines with meanings and faults that were worked out by hand.
 use super::*;
-use kinds::{LongRest, Prefix};
+use forms::{LongRest, Prefix};
 use model::{Call, Decision};
 use spelling::{NumberFault, RegionFault};
 

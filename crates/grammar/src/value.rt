@@ -1,5 +1,6 @@
 // What the fields of a line say.
-use kinds::{Prefix, Range, Set};
+use forms::{Prefix, Range};
+use kinds::Set;
 use model::Decision;
 
 // The value of a field.

@@ -8,7 +8,7 @@ ghost use Rattle.grammar.specs.Sayable.{InType};
 use crate::limits::MAX_FIELDS;
 use crate::line::{Line, LongCall, LongRestValue};
 use crate::value::Value;
-use kinds::{LongRest, Prefix};
+use forms::{LongRest, Prefix};
 use model::{Call, Decision, Header, Property, Rule};
 use tables::FixedVec;
 

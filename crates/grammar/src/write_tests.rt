@@ -1,6 +1,7 @@
 // Lines with texts that were worked out by hand.
 use super::*;
-use kinds::{LongRest, Pair, Prefix, Range, Set};
+use forms::{LongRest, Prefix, Range};
+use kinds::{Pair, Set};
 use model::{Call, Decision, Header, Property, Rule};
 use std::test::Fail;
 

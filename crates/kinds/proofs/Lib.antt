@@ -1,4 +1,5 @@
 pub mod Sharing
-pub mod Bounds
+pub mod Provided
+pub mod Bits
 pub mod Relations
 pub mod Sides

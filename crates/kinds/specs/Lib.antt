@@ -1,12 +1,9 @@
 pub mod Words
 pub mod Related
 pub mod Made
-pub mod Range
-pub mod Prefix
 pub mod Set
 pub mod Pair
 pub mod Listing
 pub mod Sides
-pub mod FirstBits
 pub mod Makes
 pub mod Masks

@@ -1,5 +1,5 @@
 -- What is made only where a rule holds.
-use Rattle.std.specs.Prelude.{◌≡◌, ℕ, Some, None, MatchOption, refl}
+use Rattle.std.specs.Prelude.{◌≡◌, ℕ, Some}
 use Rattle.std.proofs.Common.{ap, arith}
 use Rattle.kinds.specs.Made.{provided}
 
@@ -7,22 +7,6 @@ pub provided_yes : {P X : Type 0} (d : Dec P) (f : P → X) → IsProp P → (h 
 provided_yes (yes k) f prop h = ap (λ p. Some (f p)) (prop k h)
 provided_yes (no n) f prop h = absurd (n h)
 
-pub provided_no : {P X : Type 0} (d : Dec P) (f : P → X) → (P → ⊥) → provided d f ≡ None
-provided_no (yes k) f n = absurd (n k)
-provided_no (no _) f n = refl
-
 pub provided_some : {P X : Type 0} (d : Dec P) (f : P → X) (x : X) → provided d f ≡ Some x → (h : P) × (f h ≡ x)
 provided_some (yes k) f x e = (k, cc)
 provided_some (no n) f x e = let z : ◌≡◌ {A = ℕ} 0 1 = cc in absurd (omega arith)
-
-pub provided_cases : {P X : Type 0} (d : Dec P) (f : P → X) (A : Type 0) (B : X → Type 0) → ((P → ⊥) → A) → ((h : P) → B (f h)) → MatchOption (provided d f) A B
-provided_cases (yes h) f A B a b = b h
-provided_cases (no n) f A B a b = a n
-
--- what is made has what it was made for
-pub provided_fits : {P X : Type 0} (d : Dec P) (f : P → X) (B : X → Type 0) → MatchOption (provided d f) ⊥ B → (h : P) × B (f h)
-provided_fits (yes h) f B b = (h, b)
-provided_fits (no n) f B b = absurd b
-
-pub none_some : {X B : Type 0} {x : X} → None ≡ Some x → B
-none_some e = let z : ◌≡◌ {A = ℕ} 0 1 = cc in absurd (omega arith)

@@ -9,9 +9,10 @@ mod session;
 mod sizes;
 
 use anyhow::ensure;
-use kinds::{
-    FlatRest, Kind, LongRest, Prefix, Range, flat_addresses, flat_rest, long_addresses, long_rest,
+use forms::{
+    FlatRest, LongRest, Prefix, Range, flat_addresses, flat_rest, long_addresses, long_rest,
 };
+use kinds::Kind;
 use limits::{Limits, run_all};
 use numbered::Numbered;
 use session::{Manner, Session};

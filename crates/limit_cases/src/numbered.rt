@@ -1,5 +1,6 @@
 // Kinds whose regions of one value and whose values have numbers.
-use kinds::{Kind, Pair, Prefix, Range, Set};
+use forms::{Prefix, Range};
+use kinds::{Kind, Pair, Set};
 use std::alloc::AllocError;
 
 pub trait Numbered: Kind {

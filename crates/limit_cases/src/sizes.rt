@@ -1,6 +1,7 @@
 // How many bytes things have, as docs/register.md says; each is evaluated when the crate is checked.
 use checks::{BlockRow, PacketRow, PropertyRow, RuleRow};
-use kinds::{FlatRest, LongRest, Pair, Prefix, PrefixRow, Range, RangeRow, SetRow};
+use forms::{FlatRest, LongRest, Prefix, PrefixRow, Range, RangeRow};
+use kinds::{Pair, SetRow};
 use register::Register;
 use search::Frame;
 use std::mem::size_of;

@@ -1,14 +1,14 @@
 -- The kinds of the Long form, as the register's definitions take them: what regions hold, and how they lie in rows.
 use Rattle.std.specs.Prelude.{ℕ}
 use Rattle.kinds.specs.Pair.{pair_holds, both}
-use Rattle.kinds.specs.Prefix.{prefix_holds, prefix_of}
-use Rattle.kinds.specs.Range.{range_holds, range_of}
+use Rattle.forms.specs.Prefix.{prefix_holds, prefix_of}
+use Rattle.forms.specs.Range.{range_holds, range_of}
 use Rattle.kinds.specs.declared.kind.Kind.{Ghosts}
 use Rattle.kinds.specs.declared.pair.Pair.{Pair}
-use Rattle.kinds.specs.declared.prefix.Prefix.{Prefix}
-use Rattle.kinds.specs.declared.prefix.PrefixRow.{PrefixRow}
-use Rattle.kinds.specs.declared.range.Range.{Range}
-use Rattle.kinds.specs.declared.range.RangeRow.{RangeRow}
+use Rattle.forms.specs.declared.prefix.Prefix.{Prefix}
+use Rattle.forms.specs.declared.prefix.PrefixRow.{PrefixRow}
+use Rattle.forms.specs.declared.range.Range.{Range}
+use Rattle.forms.specs.declared.range.RangeRow.{RangeRow}
 use Rattle.grammar.specs.Lines.{LongRest, LongRestValue}
 use Rattle.state.specs.Rows.{Stored}
 

@@ -1,7 +1,7 @@
 -- What the console does with a line.
 use Rattle.std.specs.Prelude.{◌≡◌, ℕ, zero, suc, ◌<◌, ◌⊎◌, List, ◌++◌, length, drop, Some, None, Option, Ok, Err, Result}
 use Rattle.std.specs.List.{slice_get}
-use Rattle.kinds.specs.declared.prefix.Prefix.{Prefix}
+use Rattle.forms.specs.declared.prefix.Prefix.{Prefix}
 use Rattle.model.specs.Record.{plain}
 use Rattle.model.specs.Refusals.{IsTooShort}
 use Rattle.model.specs.declared.answers.Answer.{Answer}

@@ -1,9 +1,9 @@
 -- The wholes of the Long form.
 use Rattle.std.specs.Prelude.{◌^◌, ◌<◌, ◌≤◌}
 use Rattle.kinds.specs.Words.{Exactly}
-use Rattle.kinds.specs.Prefix.{prefix_holds}
-use Rattle.kinds.specs.Range.{range_holds}
-use Rattle.kinds.specs.declared.prefix.Prefix.{Prefix}
+use Rattle.forms.specs.Prefix.{prefix_holds}
+use Rattle.forms.specs.Range.{range_holds}
+use Rattle.forms.specs.declared.prefix.Prefix.{Prefix}
 use Rattle.grammar.specs.Lines.{LongRest}
 
 -- all addresses, all ports and all protocols

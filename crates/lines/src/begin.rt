@@ -1,13 +1,13 @@
 // How a console begins.
 ghost use Rattle.std.specs.Prelude.{◌≡◌, []};
-ghost use Rattle.kinds.specs.declared.prefix.Prefix.{Prefix};
+ghost use Rattle.forms.specs.declared.prefix.Prefix.{Prefix};
 ghost use Rattle.grammar.specs.Lines.{LongRest};
 ghost use Rattle.register.specs.Promise.{Tells};
 ghost use Rattle.lines.specs.Kinds.{address_kind, rest_kind, LongStored};
 ghost use Rattle.lines.specs.Wholes.{LongWholes};
 
 use crate::console::Console;
-use kinds::{LongRest, Prefix, long_addresses, long_rest};
+use forms::{LongRest, Prefix, long_addresses, long_rest};
 use register::Register;
 
 impl Console {

@@ -1,5 +1,5 @@
 // The console.
-use kinds::{LongRest, Prefix};
+use forms::{LongRest, Prefix};
 use register::Register;
 
 // A register of the Long form that is told what to do by lines of text.

@@ -5,8 +5,9 @@ ghost use Rattle.grammar.specs.declared.line.Line.TheVariants.{List};
 ghost use Rattle.lines.specs.Serve.{Replies, Serves};
 
 use crate::console::Console;
+use forms::{LongRest, Prefix};
 use grammar::{Line, read_line};
-use kinds::{Kind, LongRest, Prefix};
+use kinds::Kind;
 use model::Answer;
 use register::Memory;
 use replies::{MIN_ANSWER, Reply, put_reply};

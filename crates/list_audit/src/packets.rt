@@ -1,7 +1,8 @@
 // Packets of the Long form, and the words that rules and questions about them are written with.
 ghost use Rattle.std.specs.Prelude.{◌≡◌, ◌+◌, ◌*◌, ◌^◌};
 
-use kinds::{LongRest, PacketRegion, Pair, Prefix, PrefixRow, RangeRow, SetRow};
+use forms::{LongRest, Prefix, PrefixRow, RangeRow};
+use kinds::{PacketRegion, Pair, SetRow};
 use std::fmt;
 use std::net::Ipv4Addr;
 

@@ -10,7 +10,8 @@ use crate::rules::{
     Action, GUESTS, HTTPS, NTP, OFFICE, SMTP, STREET, TELNET, guest_net, house, mail_host,
     office_net, server_net, time_host, web_host,
 };
-use kinds::{Kind, long_addresses, long_rest, whole_packets};
+use forms::{long_addresses, long_rest};
+use kinds::{Kind, whole_packets};
 use search::Wish;
 
 // A question: it is broken by a packet of these with such a match, and kept where there is none.

@@ -5,7 +5,7 @@ ghost use Rattle.list_audit.specs.Actions.{Decodes, number_of};
 use crate::packets::{
     PacketsRow, Service, all_services, anywhere, host, ip, net, packets, tcp, udp_both,
 };
-use kinds::PrefixRow;
+use forms::PrefixRow;
 use search::Entry;
 use std::error::Error;
 use std::fmt;

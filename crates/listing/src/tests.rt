@@ -1,7 +1,7 @@
 // A tree with each part, and its listing worked out by hand.
 use super::*;
 use checks::{block_row, property_row, rule_row};
-use kinds::{Range, Set};
+use kinds::Set;
 use lists::ListTable;
 use model::{Call, Decision, Property, Rule};
 use state::{Memory, State};
@@ -27,10 +27,10 @@ fn lists_of_three() -> Result<ListTable, Fail> {
 }
 
 // The rule for these sources.
-fn rule(source: Range, decision: Decision) -> Rule<Range, Range> {
-    let all = Range::up_to(99);
+fn rule(source: Set, decision: Decision) -> Rule<Set, Set> {
+    let all = Set::up_to(31);
     Rule {
-        interfaces: Set::up_to(31),
+        interfaces: all,
         source,
         destination: all,
         rest: all,
@@ -40,8 +40,8 @@ fn rule(source: Range, decision: Decision) -> Rule<Range, Range> {
 
 #[test]
 fn each_line(rt: HostRuntime) -> Result<(), Fail> {
-    let all = Range::up_to(99);
-    let tens = Range::up_to(9);
+    let all = Set::up_to(31);
+    let tens = Set::up_to(9);
     let property = Property {
         sort: Decision::Accept,
         from: 1,
@@ -102,9 +102,9 @@ fn each_line(rt: HostRuntime) -> Result<(), Fail> {
             })
         )
     );
-    assert!(rt; matches!(line(3), Some(Call::Give { domain: 1, region }) if region.hi() == 9));
+    assert!(rt; matches!(line(3), Some(Call::Give { domain: 1, region }) if region.mask() == 1023));
     assert!(rt;
-        matches!(line(4), Some(Call::Place { firewall: 0, position: 0, rule }) if rule.source.hi() == 9)
+        matches!(line(4), Some(Call::Place { firewall: 0, position: 0, rule }) if rule.source.mask() == 1023)
     );
     assert!(rt;
         matches!(line(5), Some(Call::Alter { firewall: 0, position: 1, rule }) if rule.decision == Decision::Discard)

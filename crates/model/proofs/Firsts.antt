@@ -2,7 +2,7 @@
 use Rattle.std.proofs.Common.{◌≡◌, ℕ, zero, suc, ◌<◌, ◌⊎◌, List, [], ◌∷◌, Some, sym, refl, subst, inl, inr, arith}
 use Rattle.std.specs.List.{slice_get}
 use Rattle.search.specs.First.{First, Nowhere, Before}
-use Rattle.kinds.specs.Makes.{none_some}
+use Rattle.kinds.proofs.Provided.{none_some}
 
 module _ {X : Type 0} (fits : X → Type 0) where
   nowhere_nil : Nowhere fits []

@@ -4,7 +4,7 @@ use native.Mathlib.Decide.{dec_le}
 use Rattle.std.proofs.lemmas.List.{length_push}
 use Rattle.std.specs.List.{slice_get}
 use Rattle.kinds.specs.Words.{Share}
-use Rattle.kinds.specs.Makes.{none_some}
+use Rattle.kinds.proofs.Provided.{none_some}
 use Rattle.search.specs.First.{Nowhere}
 use Rattle.model.specs.Limits.{max_interfaces}
 use Rattle.model.specs.Record.{refused, Right, unless, then_tree, tree_from, plain, LawfulFrom, Lawful}

@@ -4,7 +4,7 @@ use native.Mathlib.Decide.{ℕ_discrete}
 use Rattle.std.specs.List.{slice_get}
 use Rattle.kinds.specs.Words.{Inhabited}
 use Rattle.kinds.specs.Made.{dec_both}
-use Rattle.kinds.specs.Makes.{none_some}
+use Rattle.kinds.proofs.Provided.{none_some}
 use Rattle.model.specs.Properties.{Neighbours, Of, WellPlaced, BrokenIn, Kept, Guarded}
 use Rattle.model.specs.Record.{refused, Right, unless, then_tree, plain}
 use Rattle.model.specs.Refusals.{Misplaces, Broken, BreaksOne}

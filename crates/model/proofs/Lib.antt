@@ -7,8 +7,3 @@ pub mod Grown
 pub mod Meanings
 pub mod Agreement
 pub mod Guarding
-pub mod Table
-pub mod Sampled
-pub mod SampledEdits
-pub mod SampledSorts
-pub mod SampledAnswers

@@ -1,7 +1,7 @@
 -- What stands where in a list that has grown or lost an element.
 use Rattle.std.proofs.Common.{◌≡◌, ℕ, zero, suc, ◌⊎◌, List, [], ◌∷◌, ◌++◌, length, Some, sym, refl, ap, inl, inr, arith}
 use Rattle.std.specs.List.{slice_get, remove}
-use Rattle.kinds.specs.Makes.{none_some}
+use Rattle.kinds.proofs.Provided.{none_some}
 
 module _ {X : Type 0} where
   pub nth_push : (xs : List X) (x y : X) (k : ℕ) → slice_get (xs ++ x ∷ []) k ≡ Some y → (slice_get xs k ≡ Some y) ⊎ ((k ≡ length xs) × (y ≡ x))

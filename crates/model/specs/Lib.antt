@@ -7,5 +7,3 @@ pub mod Properties
 pub mod Refusals
 pub mod Record
 pub mod Theorems
-pub mod Examples
-pub mod Samples

@@ -4,7 +4,6 @@
 
 mod answers;
 mod calls;
-mod examples;
 mod limits;
 mod path;
 mod rules;
@@ -12,7 +11,6 @@ mod theorems;
 
 pub use answers::{Answer, Lent, Recorded, Refusal};
 pub use calls::Call;
-pub use examples::{examples_hold, samples_hold};
 pub use limits::{
     MAX_BLOCKS, MAX_DOMAINS, MAX_INTERFACES, MAX_LIST, MAX_PROPERTIES, MAX_RULES,
     MIN_ADDRESS_FRAMES, MIN_PACKET_FRAMES,

@@ -1,7 +1,7 @@
 -- What holds of each element of a list, once the list has changed.
 use Rattle.std.proofs.Common.{◌≡◌, ℕ, zero, suc, List, [], ◌∷◌, ◌++◌, set, Some, sym, refl, ◌∙◌, subst, inl, inr}
 use Rattle.std.specs.List.{slice_get, insert, remove}
-use Rattle.kinds.specs.Makes.{none_some}
+use Rattle.kinds.proofs.Provided.{none_some}
 use Rattle.model.proofs.Rows.{nth_push, skip, nth_removed}
 
 module _ {X : Type 0} (holds : X → Type 0) where

@@ -1,7 +1,7 @@
 -- Every tree of a lawful record is built again by its listing.
 use Rattle.std.proofs.Common.{◌≡◌, ℕ, ◌<◌, ◌≤◌, List, [], ◌∷◌, map, length, Some, sym, refl, subst, arith}
 use Rattle.std.specs.List.{slice_get}
-use Rattle.kinds.specs.Makes.{none_some}
+use Rattle.kinds.proofs.Provided.{none_some}
 use Rattle.kinds.specs.Words.{Inhabited}
 use Rattle.model.specs.Limits.{max_rules}
 use Rattle.model.specs.Properties.{Guarded}

@@ -4,8 +4,8 @@ use native.Mathlib.Decide.{dec_le}
 use Rattle.std.proofs.lemmas.List.{length_push}
 use Rattle.std.proofs.lemmas.List.Edits.{length-insert, length-remove}
 use Rattle.std.specs.List.{slice_get, insert, remove}
-use Rattle.kinds.specs.Masks.{ones_bits}
-use Rattle.kinds.specs.Makes.{none_some}
+use Rattle.kinds.proofs.Bits.{ones_bits}
+use Rattle.kinds.proofs.Provided.{none_some}
 use Rattle.kinds.specs.Words.{Inside}
 use Rattle.model.specs.Limits.{max_rules, max_list, max_blocks, max_properties, max_domains, max_interfaces}
 use Rattle.model.specs.Packets.{Unmatched, InWhole, Complete}

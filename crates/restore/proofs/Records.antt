@@ -1,7 +1,7 @@
 -- What one call more makes of a record and of a listing that is read.
 use Rattle.std.proofs.Common.{◌≡◌, ℕ, zero, suc, ◌≤◌, ◌<◌, List, [], ◌∷◌, ◌++◌, length, take, drop, Some, None, Option, MatchOption, refl, sym, ap, ◌∙◌, arith}
 use Rattle.std.specs.List.{slice_get}
-use Rattle.kinds.specs.Makes.{none_some}
+use Rattle.kinds.proofs.Provided.{none_some}
 use Rattle.model.specs.Record.{refused, Right, Said, unless, then_tree, tree_from, LawfulFrom}
 use Rattle.model.specs.Refusals.{number, Applies}
 use Rattle.model.specs.Tree.{Tree, after}

@@ -2,10 +2,10 @@
 use Rattle.std.proofs.Common.{ℕ, ◌^◌, ◌<◌, refl, arith}
 use Rattle.std.specs.List.{AllByRecursion}
 use Rattle.kinds.specs.Pair.{pair_holds}
-use Rattle.kinds.specs.Prefix.{prefix_holds}
-use Rattle.kinds.specs.Range.{range_holds}
+use Rattle.forms.specs.Prefix.{prefix_holds}
+use Rattle.forms.specs.Range.{range_holds}
 use Rattle.kinds.specs.Words.{Inside}
-use Rattle.kinds.specs.declared.prefix.Prefix.{Prefix}
+use Rattle.forms.specs.declared.prefix.Prefix.{Prefix}
 use Rattle.model.specs.Limits.{max_domains, max_list}
 use Rattle.model.specs.Refusals.{RuleInside}
 use Rattle.model.specs.Tree.{start}

@@ -4,7 +4,7 @@ use Rattle.std.proofs.Math.Seq.{take-append_seam}
 use Rattle.std.proofs.lemmas.Bool.{true≢false}
 use Rattle.std.proofs.lemmas.List.{take-append-drop}
 use Rattle.std.specs.List.{AllByRecursion, slice_get, starts_with}
-use Rattle.kinds.specs.declared.prefix.Prefix.{Prefix}
+use Rattle.forms.specs.declared.prefix.Prefix.{Prefix}
 use Rattle.search.proofs.Positions.{nth_within}
 use Rattle.model.specs.Record.{Said, unless, plain}
 use Rattle.model.specs.Refusals.{IsTooShort}

@@ -1,8 +1,8 @@
 -- A listing read whole, line by line.
 use Rattle.std.proofs.Common.{◌≡◌, ℕ, zero, suc, [], refl, sym, ap, ◌∙◌, subst, arith}
 use Rattle.std.proofs.lemmas.List.{take_all}
-use Rattle.kinds.specs.declared.prefix.Prefix.{Prefix}
-use Rattle.kinds.specs.declared.prefix.PrefixRow.{PrefixRow}
+use Rattle.forms.specs.declared.prefix.Prefix.{Prefix}
+use Rattle.forms.specs.declared.prefix.PrefixRow.{PrefixRow}
 use Rattle.model.specs.Record.{plain}
 use Rattle.model.specs.Refusals.{IsTooShort}
 use Rattle.model.specs.Tree.{start}

@@ -5,11 +5,11 @@ use Rattle.std.proofs.Math.Nat.{ℕ_set, zero-div, mod-eq_of_lt, div-lt_iff_lt-m
 use Rattle.std.proofs.lemmas.Nat.{pow_below, pow_pos}
 use mathlib.Core.HLevel.{×_prop}
 use Rattle.kinds.specs.Makes.{provided_yes}
-use Rattle.kinds.specs.Prefix.{prefix_holds, prefix_of}
-use Rattle.kinds.specs.Range.{range_holds, range_of}
+use Rattle.forms.specs.Prefix.{prefix_holds, prefix_of}
+use Rattle.forms.specs.Range.{range_holds, range_of}
 use Rattle.kinds.specs.Words.{Exactly}
-use Rattle.kinds.specs.declared.prefix.Prefix.{Prefix}
-use Rattle.kinds.specs.declared.range.Range.{Range}
+use Rattle.forms.specs.declared.prefix.Prefix.{Prefix}
+use Rattle.forms.specs.declared.range.Range.{Range}
 use Rattle.grammar.specs.Lines.{LongRest}
 use Rattle.lines.specs.Wholes.{LongWholes}
 

@@ -1,6 +1,6 @@
 -- A console built again from another's listing.
 use Rattle.std.specs.Prelude.{◌≡◌, ℕ, zero, suc, ◌<◌, ◌≤◌, List, length, take, Bool, true, Ok, Err, Result}
-use Rattle.kinds.specs.declared.prefix.Prefix.{Prefix}
+use Rattle.forms.specs.declared.prefix.Prefix.{Prefix}
 use Rattle.model.specs.Record.{plain}
 use Rattle.model.specs.Refusals.{IsTooShort}
 use Rattle.model.specs.Tree.{start}

@@ -6,11 +6,12 @@ ghost use Rattle.state.specs.Memory.{SameMemory, lent_by, tables_of};
 ghost use Rattle.register.specs.Promise.{Tells};
 ghost use Rattle.lines.specs.Wholes.{LongWholes};
 ghost use Rattle.restore.specs.Restored.{Listed, Takes, ReadsOn, Restores};
-ghost use Rattle.kinds.specs.declared.prefix.Prefix.{Prefix};
+ghost use Rattle.forms.specs.declared.prefix.Prefix.{Prefix};
 ghost use Rattle.grammar.specs.Lines.{LongRest};
 
+use forms::{LongRest, Prefix};
 use grammar::{Line, MAX_NUMBER, put_line};
-use kinds::{Kind, LongRest, Prefix};
+use kinds::Kind;
 use lines::{Console, LongMemory};
 use model::{MAX_BLOCKS, MAX_DOMAINS, MAX_PROPERTIES, MAX_RULES};
 use rebuild::listings_rebuild;

@@ -1,7 +1,7 @@
 -- Firsts of a list whose elements are rewritten.
 use Rattle.std.proofs.Common.{◌≡◌, ℕ, zero, suc, List, [], ◌∷◌, map, Some, sym, refl, ap, subst}
 use Rattle.std.specs.List.{slice_get}
-use Rattle.kinds.specs.Makes.{none_some}
+use Rattle.kinds.proofs.Provided.{none_some}
 use Rattle.search.specs.First.{First, Nowhere}
 
 module _ {X Y : Type 0} (f : X → Y) where

@@ -7,7 +7,8 @@ mod random;
 
 use anyhow::ensure;
 use cases::run;
-use kinds::{FlatRest, LongRest, PacketRegion, Prefix, Range};
+use forms::{FlatRest, LongRest, Prefix, Range};
+use kinds::PacketRegion;
 
 const LISTS: u32 = 3_000;
 

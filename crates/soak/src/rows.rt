@@ -1,5 +1,6 @@
 // Kinds whose rows can be compared, by their numbers.
-use kinds::{Kind, Pair, Prefix, PrefixRow, Range, RangeRow, Set, SetRow};
+use forms::{Prefix, PrefixRow, Range, RangeRow};
+use kinds::{Kind, Pair, Set, SetRow};
 
 pub trait RowKind: Kind {
     fn is_same_row(one: Self::Row, other: Self::Row) -> bool;

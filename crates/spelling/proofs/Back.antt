@@ -7,8 +7,8 @@ use Rattle.std.specs.Str.Parse.{digits_value}
 use Rattle.std.proofs.lemmas.Fmt.{decimal_is_IsNumeral, length-decimal-le}
 use Rattle.std.proofs.lemmas.List.{append-nil}
 use Rattle.std.proofs.lemmas.Nat.{from_be_bytes-to_be_bytes_4}
-use Rattle.kinds.specs.declared.prefix.Prefix.{Prefix}
-use Rattle.kinds.specs.declared.range.Range.{Range}
+use Rattle.forms.specs.declared.prefix.Prefix.{Prefix}
+use Rattle.forms.specs.declared.range.Range.{Range}
 use Rattle.spelling.specs.Forms.{mark_byte, Spells}
 use Rattle.spelling.specs.Meanings.{AtMost, NumberOf, AddressOf, PrefixOf, RangeOf}
 use Rattle.spelling.specs.Numbers.{IsNumber}

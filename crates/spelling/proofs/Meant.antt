@@ -6,11 +6,11 @@ use Rattle.std.proofs.Math.Bridge.{le_prop}
 use Rattle.std.proofs.Math.Nat.{ℕ_set}
 use mathlib.Core.HLevel.{×_prop}
 use Rattle.kinds.specs.Makes.{provided_yes}
-use Rattle.kinds.specs.Prefix.{prefix_of}
-use Rattle.kinds.specs.Range.{range_of}
+use Rattle.forms.specs.Prefix.{prefix_of}
+use Rattle.forms.specs.Range.{range_of}
 use Rattle.kinds.specs.Set.{set_of}
-use Rattle.kinds.specs.declared.prefix.Prefix.{Prefix}
-use Rattle.kinds.specs.declared.range.Range.{Range}
+use Rattle.forms.specs.declared.prefix.Prefix.{Prefix}
+use Rattle.forms.specs.declared.range.Range.{Range}
 use Rattle.kinds.specs.declared.set.Set.{Set}
 use Rattle.model.specs.declared.rules.Decision.{Decision}
 use Rattle.model.specs.declared.rules.Decision.TheVariants.{Accept, Discard}

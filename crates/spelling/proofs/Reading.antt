@@ -8,8 +8,8 @@ use Rattle.std.proofs.Math.Decide.{dec_le, dec_lt, ℕ_discrete}
 use Rattle.std.specs.List.{slice_index}
 use Rattle.std.specs.Option.{ok_or}
 use Rattle.kinds.specs.Made.{provided, dec_both}
-use Rattle.kinds.specs.Prefix.{prefix_of}
-use Rattle.kinds.specs.declared.prefix.Prefix.{Prefix}
+use Rattle.forms.specs.Prefix.{prefix_of}
+use Rattle.forms.specs.declared.prefix.Prefix.{Prefix}
 use Rattle.spelling.specs.Faults.{placed}
 use Rattle.spelling.specs.Forms.{Spells}
 use Rattle.spelling.specs.Meanings.{AddressOf, PrefixOf}

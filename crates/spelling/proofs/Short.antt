@@ -4,8 +4,8 @@ use Rattle.std.specs.Fmt.{decimal}
 use Rattle.std.specs.Int.{w32, byte_at, to_be_bytes}
 use Rattle.std.proofs.lemmas.Fmt.{length-decimal-le}
 use Rattle.std.proofs.lemmas.List.{length-append}
-use Rattle.kinds.specs.declared.prefix.Prefix.{Prefix}
-use Rattle.kinds.specs.declared.range.Range.{Range}
+use Rattle.forms.specs.declared.prefix.Prefix.{Prefix}
+use Rattle.forms.specs.declared.range.Range.{Range}
 use Rattle.spelling.specs.Writes.{marked_text, form_text, address_text, prefix_text, range_text}
 use Rattle.spelling.specs.declared.form.Mark.{Mark}
 use Rattle.spelling.specs.declared.form.Mark.TheVariants.{Dot, Slash}

@@ -2,8 +2,8 @@
 use Rattle.std.specs.Prelude.{◌≡◌, ℕ, ◌-◌, ◌%◌, ◌^◌, ◌<◌, ◌≤◌, ◌⊎◌, List, [], ◌∷◌, take, slice_index, Ok, Err, Result}
 use Rattle.std.specs.List.{AllByRecursion}
 use Rattle.std.specs.Int.{w32, from_be_bytes}
-use Rattle.kinds.specs.declared.prefix.Prefix.{Prefix}
-use Rattle.kinds.specs.declared.range.Range.{Range}
+use Rattle.forms.specs.declared.prefix.Prefix.{Prefix}
+use Rattle.forms.specs.declared.range.Range.{Range}
 use Rattle.spelling.specs.declared.fault.Problem.{Problem}
 use Rattle.spelling.specs.declared.fault.Problem.TheVariants.{Number, Region}
 use Rattle.spelling.specs.declared.fault.NumberFault.TheVariants.{TooLarge}

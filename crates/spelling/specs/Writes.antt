@@ -1,8 +1,8 @@
 -- What a writer writes, and that it is read back.
 use Rattle.std.specs.Prelude.{◌≡◌, ℕ, ◌+◌, ◌<◌, ◌≤◌, List, [], ◌∷◌, ◌++◌, length, take, drop, Ok, Err, Result, decimal}
 use Rattle.std.specs.Int.{w32, to_be_bytes}
-use Rattle.kinds.specs.declared.prefix.Prefix.{Prefix}
-use Rattle.kinds.specs.declared.range.Range.{Range}
+use Rattle.forms.specs.declared.prefix.Prefix.{Prefix}
+use Rattle.forms.specs.declared.range.Range.{Range}
 use Rattle.tables.specs.declared.full.Full.{Full}
 use Rattle.spelling.specs.Forms.{mark_byte}
 use Rattle.spelling.specs.declared.form.Mark.{Mark}

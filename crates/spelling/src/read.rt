@@ -7,7 +7,7 @@ use crate::fault::{At, Fault};
 use crate::form::{ADDRESS, NUMBER, PREFIX, RANGE};
 use crate::scanning::scan;
 use crate::values::{address, number, prefix, range};
-use kinds::{Prefix, Range};
+use forms::{Prefix, Range};
 
 // A number of at most `most`.
 pub fn read_number(text: &[u8], most: u32) -> Result<u32, Fault>

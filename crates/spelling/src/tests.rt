@@ -1,6 +1,7 @@
 // Texts with values and faults that were worked out by hand.
 use super::*;
-use kinds::{Prefix, Range, Set};
+use forms::{Prefix, Range};
+use kinds::Set;
 use model::Decision;
 use std::test::Fail;
 

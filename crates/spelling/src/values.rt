@@ -5,7 +5,7 @@ ghost use Rattle.spelling.specs.declared.fault.NumberFault.TheVariants.{TooLarge
 
 use crate::fault::{NumberFault, Problem, RegionFault};
 use crate::form::Numbers;
-use kinds::{Prefix, Range};
+use forms::{Prefix, Range};
 
 // The number, if it is at most `most`.
 fn at_most(number: u64, most: u32) -> Result<u32, NumberFault>

@@ -6,8 +6,8 @@ ghost use Rattle.spelling.specs.Reads.{ReadsForm};
 ghost use Rattle.spelling.specs.Writes.{Puts, form_text, address_text, prefix_text, range_text};
 
 use crate::form::{ADDRESS, Mark, NUMBER, Numbers, PREFIX, RANGE};
+use forms::{Prefix, Range};
 use itoa::Buffer;
-use kinds::{Prefix, Range};
 use tables::Full;
 
 // Writes some bytes from a place on; answers where they end. Where there is no room for them nothing

@@ -1,8 +1,8 @@
 // What the walk needs of a packet form: the wholes, and the regions that its calls name.
-use kinds::{
-    FlatRest, Kind, LongRest, Pair, Prefix, Range, Set, flat_addresses, flat_rest, long_addresses,
-    long_rest,
+use forms::{
+    FlatRest, LongRest, Prefix, Range, flat_addresses, flat_rest, long_addresses, long_rest,
 };
+use kinds::{Kind, Pair, Set};
 
 // The hosts and the one service are regions of a single value.
 #[derive(Clone, Copy)]

@@ -1,5 +1,6 @@
 // How the values of a kind are printed: parts with commas between them.
-use kinds::{Kind, Pair, Prefix, Range, Set};
+use forms::{Prefix, Range};
+use kinds::{Kind, Pair, Set};
 use std::alloc::{AllocError, Global};
 use std::net::Ipv4Addr;
 

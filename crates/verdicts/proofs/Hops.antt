@@ -1,7 +1,7 @@
 -- The hops of a walk.
 use Rattle.std.proofs.Common.{◌≡◌, ℕ, zero, suc, List, [], ◌∷◌, Some, sym, ap, ◌∙◌, subst, arith}
 use Rattle.std.specs.List.{slice_get}
-use Rattle.kinds.specs.Makes.{none_some}
+use Rattle.kinds.proofs.Provided.{none_some}
 use Rattle.model.specs.Shape.{Shape, Domain, Joined, Walk, Absent, Distinct, firewalls_on, Sound}
 use Rattle.model.specs.declared.path.Hop.{Hop}
 use Rattle.model.proofs.Subtrees.{joined_domain}

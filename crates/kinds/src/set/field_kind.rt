@@ -14,14 +14,14 @@ use super::{Set, SetRow};
 use crate::kind::Kind;
 
 impl Set {
-    // The set of this mask; nothing exactly when the mask is 0.
+    /// The set of this mask; nothing exactly when the mask is 0.
     pub fn new(mask: u32) -> Option<Set>
         ensures { result ≡ set_of mask }
     {
         if mask == 0 { None } else { Some(Set { mask }) }
     }
 
-    // The numbers from 0 to `hi`, which stops at 31.
+    /// The numbers from 0 to `hi`, which stops at 31.
     pub fn up_to(hi: u8) -> Set
         ensures { Exactly (set_holds result) (λ v. (v ≤ hi) × (v < 32)) }
     {
@@ -31,7 +31,7 @@ impl Set {
         }
     }
 
-    // The set of one number; nothing exactly when it is above 31.
+    /// The set of one number; nothing exactly when it is above 31.
     pub fn single(value: u8) -> Option<Set>
         ensures { MatchOption result (32 ≤ value) (λ x. Exactly (set_holds x) (λ v. v ≡ value)) }
     {
@@ -42,6 +42,7 @@ impl Set {
         }
     }
 
+    /// The set as a mask: bit i stands for i.
     pub fn mask(self) -> u32
         ensures { result ≡ self.mask }
     {

@@ -1,7 +1,8 @@
 // How each kind is judged.
 use super::{Judged, Place};
 use crate::random::Random;
-use kinds::{Pair, Prefix, PrefixRow, Range, RangeRow, Set, SetRow};
+use forms::{Prefix, PrefixRow, Range, RangeRow};
+use kinds::{Pair, Set, SetRow};
 use std::alloc::{AllocError, Global};
 
 // Small addresses are the four from 10.0.0.0 on.

@@ -1,5 +1,5 @@
 // Addresses of both forms, and regions of them: those of the whole, and some others.
-use kinds::{Prefix, Range};
+use forms::{Prefix, Range};
 use std::alloc::{AllocError, Global};
 
 // How many addresses the wholes hold.

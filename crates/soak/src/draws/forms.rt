@@ -3,7 +3,8 @@
 use crate::draws::addresses::{ADDRESSES, all_addresses, prefixes, ranges};
 use crate::draws::pool::Pool;
 use crate::draws::rests::{flat_rests, long_rests};
-use kinds::{FlatRest, Kind, LongRest, Prefix, Range};
+use forms::{FlatRest, LongRest, Prefix, Range};
+use kinds::Kind;
 use std::alloc::{AllocError, Global};
 
 #[derive(Drop)]

@@ -1,7 +1,8 @@
 // The rests of both forms, and regions of them: those of the whole, and some others.
 use crate::draws::addresses::ranges_of;
 use crate::draws::pool::Pool;
-use kinds::{FlatRest, LongRest, Pair, Range, Set};
+use forms::{FlatRest, LongRest, Range};
+use kinds::{Pair, Set};
 use std::alloc::{AllocError, Global};
 
 // The ranges of 0 and 1, and one of 1 and 2, by their ends.

@@ -1,6 +1,6 @@
 use Rattle.std.proofs.Common.{Some, ap, ap₂}
 use Rattle.std.proofs.lemmas.Option.{same_Some}
-use Rattle.kinds.specs.Makes.{none_some}
+use Rattle.kinds.proofs.Provided.{none_some}
 use Rattle.kinds.specs.declared.pair.Pair.{Pair}
 use Rattle.kinds.specs.declared.set.Set.{Set}
 use Rattle.model.specs.declared.rules.Decision.{Decision}

@@ -1,5 +1,5 @@
 use Rattle.std.proofs.Common.{◌≡◌, suc, ◌≤◌, length}
-use Rattle.kinds.specs.declared.prefix.Prefix.{Prefix}
+use Rattle.forms.specs.declared.prefix.Prefix.{Prefix}
 use Rattle.state.specs.Memory.{SameMemory, lent_by, tables_of}
 use Rattle.grammar.specs.Lines.{LongRest}
 use Rattle.restore.specs.Restored.{LongRecord, listing_of, Sets, Reached}

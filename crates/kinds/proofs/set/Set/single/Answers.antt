@@ -1,6 +1,6 @@
 use Rattle.std.proofs.Common.{arith}
 use Rattle.std.proofs.lemmas.Nat.{one_shl}
-use Rattle.kinds.specs.Masks.{single_bit}
+use Rattle.kinds.proofs.Bits.{single_bit}
 use Rattle.kinds.proofs.set.Set.single.Goals as goal
 
 pub returns-then-value-lt32 : goal.returns-then-value-lt32

@@ -1,6 +1,6 @@
 use Rattle.std.proofs.Common.{◌+◌, ◌^◌, ◌≤◌, arith, pow_mono}
 use Rattle.std.proofs.lemmas.Nat.{one_shl}
-use Rattle.kinds.specs.Masks.{ones_bits}
+use Rattle.kinds.proofs.Bits.{ones_bits}
 use Rattle.kinds.proofs.set.Set.up_to.Goals as goal
 
 pub invariant_of-result : goal.invariant_of-result

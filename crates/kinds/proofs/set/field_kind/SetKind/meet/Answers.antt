@@ -1,4 +1,4 @@
-use Rattle.kinds.specs.Masks.{meet_bits}
+use Rattle.kinds.proofs.Bits.{meet_bits}
 use Rattle.kinds.proofs.set.field_kind.SetKind.meet.Goals as goal
 
 pub returns : goal.returns

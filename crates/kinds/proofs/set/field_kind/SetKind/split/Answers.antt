@@ -1,6 +1,6 @@
 use Rattle.std.proofs.Common.{inl, inr, arith}
 use Rattle.std.proofs.lemmas.Nat.{and_le_l, xor_lt}
-use Rattle.kinds.specs.Masks.{parted_bits, unsplit_bits}
+use Rattle.kinds.proofs.Bits.{parted_bits, unsplit_bits}
 use Rattle.kinds.proofs.set.field_kind.SetKind.split.Goals as goal
 
 pub invariant_of-result-then-others-ne0 : goal.invariant_of-result-then-others-ne0

@@ -1,0 +1,5 @@
+pub mod Table
+pub mod Sampled
+pub mod SampledEdits
+pub mod SampledSorts
+pub mod SampledAnswers

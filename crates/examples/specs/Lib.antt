@@ -1,0 +1,3 @@
+pub mod Examples
+pub mod Samples
+pub mod Flag

@@ -1,0 +1,8 @@
+// Examples: the statement of the register at work in small worlds, and a field kind made for show.
+#![tactic(auto)]
+
+mod flag;
+mod statement;
+
+pub use flag::Flag;
+pub use statement::{examples_hold, samples_hold};

@@ -1,0 +1,3 @@
+pub mod Range
+pub mod Prefix
+pub mod FirstBits

@@ -1,5 +1,0 @@
-use Rattle.kinds.proofs.Bounds.{meet_bounds}
-use Rattle.kinds.proofs.range.field_kind.RangeKind.meet.Goals as goal
-
-pub returns : goal.returns
-returns c = rw (c.new.ensures, c.max.ensures, c.min.ensures) (meet_bounds c.args.self.lo c.args.self.hi c.args.other.lo c.args.other.hi)
