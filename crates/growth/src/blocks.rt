@@ -63,7 +63,7 @@ fn check_placed<A: Kind, R: Kind>(
 {
     let blocks = used_rows(blocks, used);
     let properties = used_rows(properties, standing);
-    match first_misplaced::<A, R>(blocks, properties, frames)? {
+    match first_misplaced::<A, R>(blocks, properties, frames) {
         Some(astray) => Err(Refusal::Misplaced {
             property: astray.property,
             address: astray.address,
