@@ -99,8 +99,7 @@ pub fn give<A: Kind, R: Kind>(
             Ok(())
         }
         Err(refusal) => {
-            // It was just written; that `unwrap` may be called was tried, and not proved.
-            let _ = replace_row(blocks, used + 1, used, old);
+            replace_row(blocks, used + 1, used, old).unwrap();
             Err(refusal)
         }
     }
