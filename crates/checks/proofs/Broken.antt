@@ -1,13 +1,12 @@
 -- What the search tells of the packets of a property.
-use Rattle.std.proofs.Common.{◌≡◌, ℕ, ◌<◌, List, map, length, Some, None, Ok, Option, sym, refl, ap, ◌∙◌, subst, arith}
+use Rattle.std.proofs.Common.{◌≡◌, ℕ, ◌<◌, List, map, Some, None, Option, sym, refl, subst, arith}
 use mathlib.Core.Path.{subst₃}
 use Rattle.kinds.specs.Pair.{pair_holds}
 use Rattle.kinds.specs.Set.{set_holds}
 use Rattle.kinds.specs.Words.{Exactly}
 use Rattle.kinds.specs.declared.pair.Pair.{Pair}
 use Rattle.kinds.specs.declared.set.Set.{Set}
-use Rattle.std.proofs.lemmas.List.{length-map}
-use Rattle.search.specs.Answer.{Witness, Searched}
+use Rattle.search.specs.Answer.{Witness, Answered}
 use Rattle.search.specs.List.{Says, outcome}
 use Rattle.search.specs.Walk.{Hopeless}
 use Rattle.search.proofs.Walks.{matched}
@@ -73,9 +72,9 @@ module _ {A R V W X Y : Type 0} (addr : A → V → Type 0) (rests : R → W →
       pub called_keeps : Hopeless (Rows addr rests pa pr ra rr reads-a reads-r) es (Is (Some n)) (Holds addr rests pa pr ra rr reads-a reads-r aim) → (k : Packet V W) → BreaksList addr rests rs p i k → ⊥
       called_keeps none = hopeless_keeps (subst₃ (λ l m x. Hopeless (Rows addr rests pa pr ra rr reads-a reads-r) l (Is (Some m)) (Holds addr rests pa pr ra rr reads-a reads-r x)) listed wished aimed none)
 
-      pub called_found : (frames : ℕ) (o : Option (Found (Pair ℕ (Pair V (Pair V W))))) → Searched (Rows addr rests pa pr ra rr reads-a reads-r) es (Holds addr rests pa pr ra rr reads-a reads-r aim) (Is (Some n)) frames (Ok o) → BreakFound addr rests rs p i frames (Ok (packet_in o))
-      called_found frames None s = (let e = ap length listed ∙ length-map rs (rule_entry pa pr) in omega (arith, s.0), called_keeps s.1)
-      called_found frames (Some f) s = (let e = ap length listed ∙ length-map rs (rule_entry pa pr) in omega (arith, s.0), called_breaks f s.1)
+      pub called_found : (o : Option (Found (Pair ℕ (Pair V (Pair V W))))) → Answered (Rows addr rests pa pr ra rr reads-a reads-r) es (Holds addr rests pa pr ra rr reads-a reads-r aim) (Is (Some n)) o → BreakFound addr rests rs p i (packet_in o)
+      called_found None none = called_keeps none
+      called_found (Some f) w = called_breaks f w
 
   -- the whole: a packet that no rule matches, and none where there is none
   module _ (t : Tree A R) (rs : List (Rule A R)) (es : List (Entry (Pair SetRow (Pair X (Pair X Y))))) (aim : Pair Set (Pair A (Pair A R))) (listed : es ≡ map (rule_entry pa pr) rs)
@@ -90,17 +89,12 @@ module _ {A R V W X Y : Type 0} (addr : A → V → Type 0) (rests : R → W →
     met_unmatched v (Some m) says met = let z : ◌≡◌ {A = ℕ} 0 1 = cc in absurd (omega arith)
     met_unmatched v None says met = says_unmatched addr rests pa pr ra rr reads-a reads-r rs (packet_of v) says
 
-    pub unmatched_found : (frames : ℕ) (o : Option (Found (Pair ℕ (Pair V (Pair V W))))) → Searched (Rows addr rests pa pr ra rr reads-a reads-r) es (Holds addr rests pa pr ra rr reads-a reads-r aim) (Is None) frames (Ok o) → UnmatchedFound addr rests t rs frames (Ok (packet_in o))
-    unmatched_found frames None s = (
-      let e = ap length listed ∙ length-map rs (rule_entry pa pr) in omega (arith, s.0),
-      λ k whole none.
-          s.1 (value_of k) None (interfaces.1 _ whole.interface, of_parts _ (whole.source, (whole.destination, whole.rest)))
-          (subst (λ l. Says (Rows addr rests pa pr ra rr reads-a reads-r) l (value_of k) None) (sym listed) (unmatched_says addr rests pa pr ra rr reads-a reads-r rs k none)) refl,
-    )
-    unmatched_found frames (Some f) s =
-        let held = s.1.held in
-        let p = in_parts f.value.right held.1 in (
-          let e = ap length listed ∙ length-map rs (rule_entry pa pr) in omega (arith, s.0),
-          record { interface = interfaces.0 _ held.0; source = p.0; destination = p.1.0; rest = p.1.1 },
-          met_unmatched f.value f.decided (subst (λ l. Says (Rows addr rests pa pr ra rr reads-a reads-r) l f.value f.decided) listed s.1.says) s.1.met,
+    pub unmatched_found : (o : Option (Found (Pair ℕ (Pair V (Pair V W))))) → Answered (Rows addr rests pa pr ra rr reads-a reads-r) es (Holds addr rests pa pr ra rr reads-a reads-r aim) (Is None) o → UnmatchedFound addr rests t rs (packet_in o)
+    unmatched_found None hopeless = λ k whole none.
+        hopeless (value_of k) None (interfaces.1 _ whole.interface, of_parts _ (whole.source, (whole.destination, whole.rest)))
+        (subst (λ l. Says (Rows addr rests pa pr ra rr reads-a reads-r) l (value_of k) None) (sym listed) (unmatched_says addr rests pa pr ra rr reads-a reads-r rs k none)) refl
+    unmatched_found (Some f) w =
+        let p = in_parts f.value.right w.held.1 in (
+          record { interface = interfaces.0 _ w.held.0; source = p.0; destination = p.1.0; rest = p.1.1 },
+          met_unmatched f.value f.decided (subst (λ l. Says (Rows addr rests pa pr ra rr reads-a reads-r) l f.value f.decided) listed w.says) w.met,
         )

@@ -1,8 +1,7 @@
 -- What the rows of the blocks say of addresses.
-use Rattle.std.proofs.Common.{◌≡◌, ℕ, List, map, Some, None, Ok, Option, sym, refl, ap, ◌∙◌, subst, inl, inr, arith, MatchOption}
+use Rattle.std.proofs.Common.{◌≡◌, ℕ, List, map, Some, None, Option, sym, refl, ap, ◌∙◌, subst, inl, inr, arith, MatchOption}
 use native.Mathlib.Decide.{ℕ_discrete}
-use Rattle.std.proofs.lemmas.List.{length-map}
-use Rattle.search.specs.Answer.{Searched}
+use Rattle.search.specs.Answer.{Answered}
 use Rattle.search.specs.List.{row_holds, Says, outcome}
 use Rattle.search.specs.declared.frames.Found.{Found}
 use Rattle.search.specs.declared.list.Entry.{Entry}
@@ -70,24 +69,19 @@ module _ {A R V W X : Type 0} (addr : A → V → Type 0) (rests : R → W → T
     of_home v d o None (inl (zero-d, is)) same = sym zero-d
     of_home v d o None (inr (n, is)) same = let z : ◌≡◌ {A = ℕ} 0 1 = cc in absurd (omega arith)
 
-    pub astray_found : ((x : A) (v : V) → Dec (addr x v)) → (x : A) (d : ℕ) (o : Option ℕ) → Home d o → (frames : ℕ) (r : Option (Found V))
-        → Searched Rows (map (block_entry pa) t.blocks) (addr x) (IsNot o) frames (Ok r) → AstrayFound addr rests t x d frames (Ok (value_in r))
-    astray_found tell x d o at frames None s = (
-      let e = length-map t.blocks (block_entry pa) in omega (arith, s.0),
-      λ v h.
-          let (m, says) = says_some tell v in
-          elim (ℕ_discrete (domain_in m) d) [
-            | yes same ↦ subst (Of addr rests t v) same (says_of v m says)
-            | no n ↦ absurd (s.1 v m h says (λ same. n (of_home v d o m at same)))
-          ],
-    )
-    astray_found tell x d o at frames (Some f) s = (
-      let e = length-map t.blocks (block_entry pa) in omega (arith, s.0),
-      s.1.held,
-      λ of.
-          s.1.met (home_of f.value d o f.decided at s.1.says (of_one addr rests t ok.apart f.value _ d (says_of f.value f.decided s.1.says) of)),
+    pub astray_found : ((x : A) (v : V) → Dec (addr x v)) → (x : A) (d : ℕ) (o : Option ℕ) → Home d o → (r : Option (Found V))
+        → Answered Rows (map (block_entry pa) t.blocks) (addr x) (IsNot o) r → AstrayFound addr rests t x d (value_in r)
+    astray_found tell x d o at None none = λ v h.
+        let (m, says) = says_some tell v in
+        elim (ℕ_discrete (domain_in m) d) [
+          | yes same ↦ subst (Of addr rests t v) same (says_of v m says)
+          | no n ↦ absurd (none v m h says (λ same. n (of_home v d o m at same)))
+        ]
+    astray_found tell x d o at (Some f) w = (
+      w.held,
+      λ of. w.met (home_of f.value d o f.decided at w.says (of_one addr rests t ok.apart f.value _ d (says_of f.value f.decided w.says) of)),
     )
 
-    pub called_astray : (es : List (Entry X)) → es ≡ map (block_entry pa) t.blocks → ((x : A) (v : V) → Dec (addr x v)) → (x : A) (d : ℕ) (o : Option ℕ) → Home d o → (frames : ℕ) (r : Option (Found V))
-        → Searched Rows es (addr x) (IsNot o) frames (Ok r) → AstrayFound addr rests t x d frames (Ok (value_in r))
-    called_astray es is tell x d o at frames r s = astray_found tell x d o at frames r (subst (λ l. Searched Rows l (addr x) (IsNot o) frames (Ok r)) is s)
+    pub called_astray : (es : List (Entry X)) → es ≡ map (block_entry pa) t.blocks → ((x : A) (v : V) → Dec (addr x v)) → (x : A) (d : ℕ) (o : Option ℕ) → Home d o → (r : Option (Found V))
+        → Answered Rows es (addr x) (IsNot o) r → AstrayFound addr rests t x d (value_in r)
+    called_astray es is tell x d o at r s = astray_found tell x d o at r (subst (λ l. Answered Rows l (addr x) (IsNot o) r) is s)

@@ -1,10 +1,9 @@
 -- Addresses of a region that are not of a domain.
-use Rattle.std.specs.Prelude.{◌≡◌, ℕ, ◌<◌, ◌≤◌, ◌⊎◌, List, map, length, Some, None, Ok, Err, Option, Result, ◌≢◌}
+use Rattle.std.specs.Prelude.{◌≡◌, ℕ, ◌⊎◌, List, map, Some, None, Option, ◌≢◌}
 use Rattle.std.specs.List.{slice_get}
 use Rattle.kinds.specs.Words.{Inside, Share}
 use Rattle.kinds.specs.declared.kind.Kind.{Ghosts}
 use Rattle.search.specs.declared.list.Entry.{Entry}
-use Rattle.search.specs.declared.frames.TooShort.{TooShort}
 use Rattle.search.specs.declared.list.Match.{Match}
 use Rattle.model.specs.Properties.{Of}
 use Rattle.model.specs.Tree.{Tree, Block}
@@ -30,8 +29,7 @@ abbrev pub Home : ℕ → Option ℕ → Type 0
 Home d o = ((d ≡ 0) × (o ≡ None)) ⊎ ((d ≢ 0) × (o ≡ Some d))
 
 module _ {A R V W : Type 0} (addr : A → V → Type 0) (rests : R → W → Type 0) where
-  -- such an address, or nothing exactly where there is none; too short exactly where there are no more frames than blocks
-  abbrev pub AstrayFound : Tree A R → A → ℕ → ℕ → Result (Option V) TooShort → Type 0
-  AstrayFound t x d frames (Err e) = frames ≤ length t.blocks
-  AstrayFound t x d frames (Ok None) = (length t.blocks < frames) × Inside (addr x) (λ (a : V). Of addr rests t a d)
-  AstrayFound t x d frames (Ok (Some a)) = (length t.blocks < frames) × addr x a × (Of addr rests t a d → ⊥)
+  -- such an address, or nothing exactly where there is none
+  abbrev pub AstrayFound : Tree A R → A → ℕ → Option V → Type 0
+  AstrayFound t x d None = Inside (addr x) (λ (a : V). Of addr rests t a d)
+  AstrayFound t x d (Some a) = addr x a × (Of addr rests t a d → ⊥)

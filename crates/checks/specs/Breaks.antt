@@ -1,6 +1,5 @@
 -- Packets of a property that a list decides against its sort.
-use Rattle.std.specs.Prelude.{◌≡◌, ℕ, ◌<◌, ◌≤◌, List, length, Some, None, Ok, Err, Option, Result}
-use Rattle.search.specs.declared.frames.TooShort.{TooShort}
+use Rattle.std.specs.Prelude.{◌≡◌, ℕ, ◌<◌, List, Some, None, Option}
 use Rattle.model.specs.Limits.{max_interfaces}
 use Rattle.model.specs.Packets.{Decided, InWhole, Unmatched, Complete}
 use Rattle.model.specs.Tree.{Tree}
@@ -26,13 +25,11 @@ module _ {A R V W : Type 0} (addr : A → V → Type 0) (rests : R → W → Typ
     pub against : (n : ℕ) × Decided addr rests rs k n (decided_against p.sort)
 
   -- a packet of the whole that no rule matches, or nothing exactly where the list is complete
-  abbrev pub UnmatchedFound : Tree A R → List (Rule A R) → ℕ → Result (Option (Packet V W)) TooShort → Type 0
-  UnmatchedFound t rs frames (Err e) = frames ≤ length rs
-  UnmatchedFound t rs frames (Ok None) = (length rs < frames) × Complete addr rests t rs
-  UnmatchedFound t rs frames (Ok (Some k)) = (length rs < frames) × InWhole addr rests t k × Unmatched addr rests rs k
+  abbrev pub UnmatchedFound : Tree A R → List (Rule A R) → Option (Packet V W) → Type 0
+  UnmatchedFound t rs None = Complete addr rests t rs
+  UnmatchedFound t rs (Some k) = InWhole addr rests t k × Unmatched addr rests rs k
 
-  -- a packet that breaks the list, or nothing exactly where there is none; too short exactly where there are no more frames than rules
-  abbrev pub BreakFound : List (Rule A R) → Property A R → ℕ → ℕ → Result (Option (Packet V W)) TooShort → Type 0
-  BreakFound rs p i frames (Err e) = frames ≤ length rs
-  BreakFound rs p i frames (Ok None) = (length rs < frames) × ((k : Packet V W) → BreaksList rs p i k → ⊥)
-  BreakFound rs p i frames (Ok (Some k)) = (length rs < frames) × BreaksList rs p i k
+  -- a packet that breaks the list, or nothing exactly where there is none
+  abbrev pub BreakFound : List (Rule A R) → Property A R → ℕ → Option (Packet V W) → Type 0
+  BreakFound rs p i None = (k : Packet V W) → BreaksList rs p i k → ⊥
+  BreakFound rs p i (Some k) = BreaksList rs p i k

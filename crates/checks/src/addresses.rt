@@ -1,5 +1,5 @@
 // Of which domain addresses are.
-ghost use Rattle.std.specs.Prelude.{◌≡◌, map, length};
+ghost use Rattle.std.specs.Prelude.{◌≡◌, ◌<◌, map, length};
 ghost use Rattle.checks.specs.Addresses.{BlocksAre, AstrayFound, Home, domain_in};
 ghost use Rattle.checks.specs.Rows.{block_entry};
 ghost use Rattle.model.specs.Properties.{Of};
@@ -7,7 +7,7 @@ ghost use Rattle.model.specs.Tree.{Tree};
 
 use crate::rows::BlockRow;
 use kinds::Kind;
-use search::{Frame, Match, TooShort, Wish, outcome_of, search};
+use search::{Frame, Match, Wish, find, outcome_of};
 
 // The domain of an address: that of the block that holds it, or 0.
 pub fn domain_of<A: Kind, R: Kind>(blocks: &[BlockRow<A::Row>], address: A::Value) -> u32
@@ -30,24 +30,22 @@ fn home_of(domain: u32) -> Option<u32>
     if domain == 0 { None } else { Some(domain) }
 }
 
-// An address of the region that is not of the domain; nothing exactly when there is none. It asks of
-// one address first, since a number that no block can have is that of no domain.
+/// An address of the region that is not of the domain; nothing exactly when there is none.
+//
+// It asks of one address first, since a number that no block can have is that of no domain.
 pub fn find_astray<A: Kind, R: Kind>(
     blocks: &[BlockRow<A::Row>],
     region: A,
     domain: usize,
     frames: &mut [Frame<A::Row>],
-) -> Result<Option<A::Value>, TooShort>
-    ensures { (t : Tree A R) → BlocksAre A.Kind blocks.now t → AstrayFound A.Kind.holds R.Kind.holds t region domain (length frames.old) result }
+) -> Option<A::Value>
+    requires { length blocks.now < length frames.old }
+    ensures { (t : Tree A R) → BlocksAre A.Kind blocks.now t → AstrayFound A.Kind.holds R.Kind.holds t region domain result }
 {
-    if frames.len() <= blocks.len() {
-        return Err(TooShort);
-    }
     let address = region.pick();
     let home = domain_of::<A, R>(blocks, address);
     if home as usize != domain {
-        return Ok(Some(address));
+        return Some(address);
     }
-    let astray = search(blocks, region, Wish::IsNot(home_of(home)), frames)?;
-    Ok(astray.map(|found| found.value))
+    find(blocks, region, Wish::IsNot(home_of(home)), frames).map(|found| found.value)
 }

@@ -13,8 +13,12 @@ pub record Witness {V W : Type 0} (rows : W → V → Type 0) (es : List (Entry 
   pub says : Says rows es f.value f.decided
   pub met : Meets wish f.decided
 
--- too short exactly where there are no more frames than entries; else a witness, or nothing exactly where there is none
+-- a witness, or nothing exactly where there is none
+abbrev pub Answered : {V W : Type 0} → (W → V → Type 0) → List (Entry W) → (V → Type 0) → Wish → Option (Found V) → Type 0
+Answered rows es target wish None = Hopeless rows es wish target
+Answered rows es target wish (Some f) = Witness rows es target wish f
+
+-- too short exactly where there are no more frames than entries; else what the search answers
 abbrev pub Searched : {V W : Type 0} → (W → V → Type 0) → List (Entry W) → (V → Type 0) → Wish → ℕ → Result (Option (Found V)) TooShort → Type 0
 Searched rows es target wish frames (Err e) = frames ≤ length es
-Searched rows es target wish frames (Ok None) = (length es < frames) × Hopeless rows es wish target
-Searched rows es target wish frames (Ok (Some f)) = (length es < frames) × Witness rows es target wish f
+Searched rows es target wish frames (Ok r) = (length es < frames) × Answered rows es target wish r

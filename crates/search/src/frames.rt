@@ -1,7 +1,7 @@
 // The search, over lent frames.
-ghost use Rattle.std.specs.Prelude.{◌≡◌, length};
+ghost use Rattle.std.specs.Prelude.{◌<◌, length};
 ghost use Rattle.search.specs.List.{row_holds};
-ghost use Rattle.search.specs.Answer.{Searched};
+ghost use Rattle.search.specs.Answer.{Answered, Searched};
 
 use crate::list::{Entry, Match, Wish};
 use crate::walk::{Step, follow};
@@ -25,11 +25,8 @@ pub struct Found<V> {
 #[derive(Clone, Copy, Debug, PartialEq)]
 pub struct TooShort;
 
-// Looks for a value of the target whose outcome in the list is as wished.
-//
-// The frames are a stack. The top one follows the list until an entry holds all of it, which
-// settles it, or cuts it: then the part that meets the entry stays, and the other part goes on top
-// from the next position. So positions rise up the stack, and one frame more than entries is enough.
+/// Looks for a value of the target whose outcome in the list is as wished, as [`find`] does, and
+/// tests first whether the frames are more than the entries: for who has not counted them.
 pub fn search<K: Kind>(
     list: &[Entry<K::Row>],
     target: K,
@@ -41,6 +38,23 @@ pub fn search<K: Kind>(
     if frames.len() <= list.len() {
         return Err(TooShort);
     }
+    Ok(find(list, target, wish, frames))
+}
+
+// Looks for a value of the target whose outcome in the list is as wished.
+//
+// The frames are a stack. The top one follows the list until an entry holds all of it, which
+// settles it, or cuts it: then the part that meets the entry stays, and the other part goes on top
+// from the next position. So positions rise up the stack, and one frame more than entries is enough.
+pub fn find<K: Kind>(
+    list: &[Entry<K::Row>],
+    target: K,
+    wish: Wish,
+    frames: &mut [Frame<K::Row>],
+) -> Option<Found<K::Value>>
+    requires { length list.now < length frames.old }
+    ensures { Answered (row_holds K.Kind.holds K.Kind.region) list.now (K.Kind.holds target) wish result }
+{
     frames[0] = Frame {
         row: target.row(),
         position: 0,
@@ -54,10 +68,10 @@ pub fn search<K: Kind>(
         };
         match follow(list, region, top.position, wish) {
             Step::Drop => count -= 1,
-            Step::Found(decided) => return Ok(Some(Found {
+            Step::Found(decided) => return Some(Found {
                 value: region.pick(),
                 decided,
-            })),
+            }),
             Step::Cut {
                 position,
                 meeting,
@@ -75,5 +89,5 @@ pub fn search<K: Kind>(
             }
         }
     }
-    Ok(None)
+    None
 }

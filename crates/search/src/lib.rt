@@ -7,7 +7,7 @@ mod lookup;
 mod relation;
 mod walk;
 
-pub use frames::{Found, Frame, TooShort, search};
+pub use frames::{Found, Frame, TooShort, find, search};
 pub use list::{Entry, Match, Wish};
 pub use lookup::outcome_of;
 pub use relation::{lies_inside, share_a_value};

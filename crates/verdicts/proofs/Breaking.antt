@@ -1,11 +1,10 @@
 -- Breaks of a property in the hops of its route.
-use Rattle.std.proofs.Common.{◌≡◌, ℕ, ◌+◌, ◌<◌, List, Some, None, Ok, Err, Option, Result, refl, subst, arith}
+use Rattle.std.proofs.Common.{◌≡◌, ℕ, ◌+◌, ◌<◌, ◌≤◌, List, length, take, drop, Some, None, Option, refl, subst, arith, length-take}
 use Rattle.std.specs.List.{slice_get}
 use Rattle.kinds.specs.Masks.{low_bit}
 use Rattle.search.specs.First.{Before}
-use Rattle.search.specs.declared.frames.TooShort.{TooShort}
 use Rattle.search.proofs.Positions.{before_more}
-use Rattle.model.specs.Limits.{max_interfaces}
+use Rattle.model.specs.Limits.{max_interfaces, max_list}
 use Rattle.model.specs.Packets.{Decided}
 use Rattle.model.specs.Properties.{BreaksIn, BrokenIn, BreaksAt}
 use Rattle.model.specs.Shape.{Domain, Route, Sound}
@@ -16,16 +15,21 @@ use Rattle.model.specs.declared.rules.Packet.{Packet}
 use Rattle.model.specs.declared.rules.Property.{Property}
 use Rattle.model.specs.declared.rules.Rule.{Rule}
 use Rattle.model.proofs.Routes.{route_one}
-use Rattle.lists.specs.Layout.{Laid}
-use Rattle.lists.specs.Lengths.{lengths_of}
+use Rattle.lists.specs.Lengths.{lengths_of, length_at, start_of}
 use Rattle.lists.specs.declared.table.ListTable.{ListTable}
 use Rattle.lists.proofs.Bounds.{length_max}
-use Rattle.lists.proofs.Laid.{laid_length}
 use Rattle.checks.specs.Breaks.{decided_against, BreaksList, BreakFound}
 use Rattle.verdicts.proofs.Edits.{against_decided, decided_against_is}
 use Rattle.verdicts.proofs.Hops.{walk_domains}
 use Rattle.verdicts.specs.Asked.{HopFound, BreaksOn, HopsFound, AskedFound}
 use Rattle.verdicts.specs.declared.route.Break.{Break}
+
+-- no more rows are a list's than it may have
+pub list_short : {Y : Type 0} (lists : ListTable) (rules : List Y) (f : ℕ) → length (take (length_at (lengths_of lists) f) (drop (start_of (lengths_of lists) f) rules)) ≤ max_list
+list_short lists rules f =
+    let most = length_max lists f in
+    let size = length-take (length_at (lengths_of lists) f) (drop (start_of (lengths_of lists) f) rules) in
+    omega arith
 
 module _ {A R V W : Type 0} (addr : A → V → Type 0) (rests : R → W → Type 0) where
   -- a packet that is decided is on an interface that there is
@@ -56,21 +60,19 @@ module _ {A R V W : Type 0} (addr : A → V → Type 0) (rests : R → W → Typ
         }
 
     -- what the list of a hop's firewall tells, told of the hop
-    pub hop_found : {Y : Type 0} {row : Rule A R → Y} (lists : ListTable) (rules : List Y) → Laid row (lengths_of lists) rules t.lists → (h : Hop) (frames : ℕ) (r : Result (Option (Packet V W)) TooShort)
-        → BreakFound addr rests (rules_of t h.firewall) p h.entered frames r → HopFound addr rests t p h frames r
-    hop_found lists rules laid h frames (Err e) short = let most = length_max lists h.firewall in let size = laid_length laid h.firewall in omega arith
-    hop_found lists rules laid h frames (Ok None) found = λ broken. found.1 broken.0 (in_list h broken.0 broken.1)
-    hop_found lists rules laid h frames (Ok (Some k)) found = list_in h k found.1
+    pub hop_found : (h : Hop) (r : Option (Packet V W)) → BreakFound addr rests (rules_of t h.firewall) p h.entered r → HopFound addr rests t p h r
+    hop_found h None none = λ broken. none broken.0 (in_list h broken.0 broken.1)
+    hop_found h (Some k) breaks = list_in h k breaks
 
     -- along some hops, none of which before place n is broken
-    module _ (hops : List Hop) (n : ℕ) (h : Hop) (here : slice_get hops n ≡ Some h) (before : Before (BrokenIn addr rests t p) hops n) (frames : ℕ) (o : Option (Packet V W)) (found : HopFound addr rests t p h frames (Ok o)) where
+    module _ (hops : List Hop) (n : ℕ) (h : Hop) (here : slice_get hops n ≡ Some h) (before : Before (BrokenIn addr rests t p) hops n) (o : Option (Packet V W)) (found : HopFound addr rests t p h o) where
       pub breaks_here : (k : Packet V W) → o ≡ Some k → BreaksOn addr rests t p hops (record { firewall = h.firewall; packet = k })
       breaks_here k is =
-          let breaks = subst (λ x. HopFound addr rests t p h frames (Ok x)) is found in
+          let breaks = subst (HopFound addr rests t p h) is found in
           record { place = n; hop = h; first = record { here = here; fit = (k, breaks); before = before }; named = refl; breaks = breaks }
 
       pub past_hop : o ≡ None → Before (BrokenIn addr rests t p) hops (n + 1)
-      past_hop is = before_more (BrokenIn addr rests t p) hops n h here before (subst (λ x. HopFound addr rests t p h frames (Ok x)) is found)
+      past_hop is = before_more (BrokenIn addr rests t p) hops n h here before (subst (HopFound addr rests t p h) is found)
 
     module _ (ok : Sound t.shape) where
       -- no packet breaks what has no route
@@ -78,9 +80,8 @@ module _ {A R V W : Type 0} (addr : A → V → Type 0) (rests : R → W → Typ
       unrouted_kept none f k b = none (walk_domains t.shape ok b.hops p.from p.to b.route.walk b.place b.hop b.on)
 
       -- what the hops of the route tell, told of the property
-      pub asked_found : (hops : List Hop) → Route t.shape p.from p.to hops → (frames : ℕ) (r : Result (Option (Break V W)) TooShort) → HopsFound addr rests t p hops frames r → AskedFound addr rests t p frames r
-      asked_found hops route frames (Err e) short = short
-      asked_found hops route frames (Ok None) none = λ f k b.
+      pub asked_found : (hops : List Hop) → Route t.shape p.from p.to hops → (r : Option (Break V W)) → HopsFound addr rests t p hops r → AskedFound addr rests t p r
+      asked_found hops route None none = λ f k b.
           let same = route_one t.shape ok p.from p.to b.hops hops b.route route in
           none b.place b.hop (subst (λ hs. slice_get hs b.place ≡ Some b.hop) same b.on) (k, b.breaks)
-      asked_found hops route frames (Ok (Some x)) b = record { hops = hops; place = b.place; hop = b.hop; route = route; first = b.first; named = b.named; breaks = b.breaks }
+      asked_found hops route (Some x) b = record { hops = hops; place = b.place; hop = b.hop; route = route; first = b.first; named = b.named; breaks = b.breaks }

@@ -1,8 +1,7 @@
 -- What another list for one firewall does to a property that was kept.
-use Rattle.std.proofs.Common.{◌≡◌, ℕ, ◌<◌, List, [], length, Some, None, Ok, Err, Option, Result, unwrap_or, sym, refl, ap, ◌∙◌, subst}
+use Rattle.std.proofs.Common.{◌≡◌, ℕ, ◌<◌, List, [], length, Some, None, Option, unwrap_or, sym, refl, ap, ◌∙◌, subst}
 use Rattle.std.specs.List.{slice_get}
 use Rattle.search.specs.First.{First, Nowhere}
-use Rattle.search.specs.declared.frames.TooShort.{TooShort}
 use Rattle.search.proofs.Positions.{nth_set_same}
 use Rattle.model.specs.Limits.{max_interfaces}
 use Rattle.model.specs.Packets.{Decided}
@@ -103,7 +102,6 @@ module _ {A R V W : Type 0} (addr : A → V → Type 0) (rests : R → W → Typ
             none k (broken_list k (subst (λ (x : Hop). BreaksIn addr rests (with_rules t f rs) p x k) same b.breaks))
 
         -- what is found in the list, entered by this hop, is found in the tree
-        pub found_here : (frames : ℕ) (r : Result (Option (Packet V W)) TooShort) → BreakFound addr rests rs p h.entered frames r → BreakAtFound addr rests t f rs p frames r
-        found_here frames (Err e) found = found
-        found_here frames (Ok None) found = keeps_here found.1
-        found_here frames (Ok (Some k)) found = breaks_here k found.1
+        pub found_here : (r : Option (Packet V W)) → BreakFound addr rests rs p h.entered r → BreakAtFound addr rests t f rs p r
+        found_here None none = keeps_here none
+        found_here (Some k) breaks = breaks_here k breaks

@@ -1,8 +1,6 @@
 -- The first break of a property on its route.
-use Rattle.std.specs.Prelude.{◌≡◌, ℕ, ◌≤◌, List, Some, None, Ok, Err, Option, Result}
+use Rattle.std.specs.Prelude.{◌≡◌, ℕ, List, Some, None, Option}
 use Rattle.search.specs.First.{First, Nowhere}
-use Rattle.search.specs.declared.frames.TooShort.{TooShort}
-use Rattle.model.specs.Limits.{max_list}
 use Rattle.model.specs.Properties.{BreaksIn, BrokenIn, Kept, BreaksFirst}
 use Rattle.model.specs.Tree.{Tree}
 use Rattle.model.specs.declared.path.Hop.{Hop}
@@ -11,12 +9,10 @@ use Rattle.model.specs.declared.rules.Property.{Property}
 use Rattle.verdicts.specs.declared.route.Break.{Break}
 
 module _ {A R V W : Type 0} (addr : A → V → Type 0) (rests : R → W → Type 0) where
-  -- a packet that breaks the property in this hop, or nothing exactly where none does;
-  -- too short only where a list may have no fewer rules than there are frames
-  abbrev pub HopFound : Tree A R → Property A R → Hop → ℕ → Result (Option (Packet V W)) TooShort → Type 0
-  HopFound t p h frames (Err e) = frames ≤ max_list
-  HopFound t p h frames (Ok None) = BrokenIn addr rests t p h → ⊥
-  HopFound t p h frames (Ok (Some k)) = BreaksIn addr rests t p h k
+  -- a packet that breaks the property in this hop, or nothing exactly where none does
+  abbrev pub HopFound : Tree A R → Property A R → Hop → Option (Packet V W) → Type 0
+  HopFound t p h None = BrokenIn addr rests t p h → ⊥
+  HopFound t p h (Some k) = BreaksIn addr rests t p h k
 
   -- the first hop in which the property is broken, by its firewall, with a packet that breaks it there
   pub record BreaksOn (t : Tree A R) (p : Property A R) (hops : List Hop) (b : Break V W) : Type 0 where
@@ -27,14 +23,12 @@ module _ {A R V W : Type 0} (addr : A → V → Type 0) (rests : R → W → Typ
     pub breaks : BreaksIn addr rests t p hop b.packet
 
   -- the same along some hops
-  abbrev pub HopsFound : Tree A R → Property A R → List Hop → ℕ → Result (Option (Break V W)) TooShort → Type 0
-  HopsFound t p hops frames (Err e) = frames ≤ max_list
-  HopsFound t p hops frames (Ok None) = Nowhere (BrokenIn addr rests t p) hops
-  HopsFound t p hops frames (Ok (Some b)) = BreaksOn t p hops b
+  abbrev pub HopsFound : Tree A R → Property A R → List Hop → Option (Break V W) → Type 0
+  HopsFound t p hops None = Nowhere (BrokenIn addr rests t p) hops
+  HopsFound t p hops (Some b) = BreaksOn t p hops b
 
   -- the first firewall on the route at which a packet breaks the property, with such a packet, or nothing exactly where
   -- it is kept
-  abbrev pub AskedFound : Tree A R → Property A R → ℕ → Result (Option (Break V W)) TooShort → Type 0
-  AskedFound t p frames (Err e) = frames ≤ max_list
-  AskedFound t p frames (Ok None) = Kept addr rests t p
-  AskedFound t p frames (Ok (Some b)) = BreaksFirst addr rests t p b.firewall b.packet
+  abbrev pub AskedFound : Tree A R → Property A R → Option (Break V W) → Type 0
+  AskedFound t p None = Kept addr rests t p
+  AskedFound t p (Some b) = BreaksFirst addr rests t p b.firewall b.packet

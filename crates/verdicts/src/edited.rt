@@ -12,7 +12,7 @@ ghost use Rattle.verdicts.specs.Edited.{Through, ThroughFound, BreakAtFound, Edi
 use checks::{PacketRow, PropertyRow, RuleRow, find_break, read_property};
 use kinds::Kind;
 use model::{Hop, Packet, Property};
-use search::{Frame, TooShort};
+use search::Frame;
 use tree::TreeTable;
 
 // A property, by its number, and a packet that breaks it.
@@ -22,30 +22,31 @@ pub struct Broken<V, W> {
     pub packet: Packet<V, W>,
 }
 
-// The first property that would be broken once the firewall has this list, with a packet that breaks
-// it there; nothing exactly when all would be kept. So far all are kept, so nothing else is searched.
-// A row that reads as nothing is passed over.
+/// The first property that would be broken once the firewall has this list, with a packet that breaks
+/// it there; nothing exactly when all would be kept. So far all are kept, so nothing else is searched.
+/// A row that reads as nothing is passed over.
 pub fn first_broken<A: Kind, R: Kind>(
     tree: &TreeTable,
     properties: &[PropertyRow<A::Row, R::Row>],
     firewall: usize,
     list: &[RuleRow<A::Row, R::Row>],
     frames: &mut [Frame<PacketRow<A::Row, R::Row>>],
-) -> Result<Option<Broken<A::Value, R::Value>>, TooShort>
-    ensures { (t : Tree A R) (rs : List (RuleOf A R)) → shape_of tree.now ≡ t.shape → firewall < length t.lists → RulesAre A.Kind R.Kind list.now rs → PropertiesAre A.Kind R.Kind properties.now t.properties → ((n : ℕ) (p : PropertyOf A R) → slice_get t.properties n ≡ Just p → Kept A.Kind.holds R.Kind.holds t p) → EditFound A.Kind.holds R.Kind.holds t firewall rs (length frames.old) result }
+) -> Option<Broken<A::Value, R::Value>>
+    requires { length list.now < length frames.old }
+    ensures { (t : Tree A R) (rs : List (RuleOf A R)) → shape_of tree.now ≡ t.shape → firewall < length t.lists → RulesAre A.Kind R.Kind list.now rs → PropertiesAre A.Kind R.Kind properties.now t.properties → ((n : ℕ) (p : PropertyOf A R) → slice_get t.properties n ≡ Just p → Kept A.Kind.holds R.Kind.holds t p) → EditFound A.Kind.holds R.Kind.holds t firewall rs result }
 {
     // This loop is `first_misplaced`'s too: a shared one would take a closure over frames, and be no shorter.
     for (index, row) in properties.iter().enumerate() {
         if let Some(property) = read_property::<A, R>(*row) {
-            if let Some(packet) = break_at(tree, property, firewall, list, frames)? {
-                return Ok(Some(Broken {
+            if let Some(packet) = break_at(tree, property, firewall, list, frames) {
+                return Some(Broken {
                     property: index,
                     packet,
-                }));
+                });
             }
         }
     }
-    Ok(None)
+    None
 }
 
 // A packet that breaks a property, so far kept, once the firewall has this list.
@@ -55,16 +56,13 @@ fn break_at<A: Kind, R: Kind>(
     firewall: usize,
     list: &[RuleRow<A::Row, R::Row>],
     frames: &mut [Frame<PacketRow<A::Row, R::Row>>],
-) -> Result<Option<Packet<A::Value, R::Value>>, TooShort>
-    ensures { (t : Tree A R) (rs : List (RuleOf A R)) → shape_of tree.now ≡ t.shape → firewall < length t.lists → RulesAre A.Kind R.Kind list.now rs → Kept A.Kind.holds R.Kind.holds t property → BreakAtFound A.Kind.holds R.Kind.holds t firewall rs property (length frames.old) result }
+) -> Option<Packet<A::Value, R::Value>>
+    requires { length list.now < length frames.old }
+    ensures { (t : Tree A R) (rs : List (RuleOf A R)) → shape_of tree.now ≡ t.shape → firewall < length t.lists → RulesAre A.Kind R.Kind list.now rs → Kept A.Kind.holds R.Kind.holds t property → BreakAtFound A.Kind.holds R.Kind.holds t firewall rs property result }
 {
-    let Some(route) = tree.route(property.from, property.to) else {
-        return Ok(None);
-    };
-    match hop_at(route.hops(), firewall) {
-        Some(hop) => find_break(list, property, hop.entered, frames),
-        None => Ok(None),
-    }
+    let route = tree.route(property.from, property.to)?;
+    let hop = hop_at(route.hops(), firewall)?;
+    find_break(list, property, hop.entered, frames)
 }
 
 // The first of the hops through the firewall, if there is one.

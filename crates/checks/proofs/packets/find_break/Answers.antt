@@ -8,9 +8,9 @@ pub returns : goal.returns
 returns g c rs is =
     let a = g.A.Kind in
     let r = g.R.Kind in
-    let one = c.in-Some.interface in
-    let only = c.in-Some.ensures in
-    let found : c.map.result ≡ packet_in c.in_ok-breaking.breaking = search rules in
+    let one = c.in_ok-interface.interface in
+    let only = c.in_ok-interface.ensures in
+    let found : c.map.result ≡ packet_in c.find.result = search rules in
     rw found
     (called_found a.holds r.holds a.plain r.plain a.region r.region g.met.A.Kind.rereads g.met.R.Kind.rereads rs c.args.property c.args.entered one (low_bit one.mask c.args.entered one.few (only.1 _ refl)) only _ _ _ is
-    (c.into.ensures ∙ ap decision_number c.against.ensures) c.packet_region-target.ensures _ _ c.in_ok-breaking.ensures)
+    (c.into.ensures ∙ ap decision_number c.against.ensures) c.packet_region-target.ensures c.find.result c.find.ensures)

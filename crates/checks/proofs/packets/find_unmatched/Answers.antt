@@ -7,7 +7,7 @@ returns g c t rs ea er is =
     let a = g.A.Kind in
     let r = g.R.Kind in
     let whole = c.whole_packets-whole.ensures in
-    let found : c.map.result ≡ packet_in c.in_ok-unmatched.unmatched = search rules in
+    let found : c.map.result ≡ packet_in c.find.result = search rules in
     rw found
     (unmatched_found a.holds r.holds a.plain r.plain a.region r.region g.met.A.Kind.rereads g.met.R.Kind.rereads t rs _ c.whole_packets-whole.result is whole.interfaces
-    (whole.parts ∙ sym (λ i. record { left = ea i; right = record { left = ea i; right = er i } })) _ c.in_ok-unmatched.unmatched c.in_ok-unmatched.ensures)
+    (whole.parts ∙ sym (λ i. record { left = ea i; right = record { left = ea i; right = er i } })) c.find.result c.find.ensures)

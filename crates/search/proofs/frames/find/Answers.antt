@@ -3,8 +3,8 @@ use Rattle.search.specs.declared.frames.Frame.{Frame}
 use Rattle.search.proofs.Positions.{last_read}
 use Rattle.search.proofs.Stack.{held_start, held_drop, held_cut, top_ok, top_inside, top_clear, room_top, start_is, within_listed, Within, start, listing}
 use Rattle.search.proofs.Weight.{drop_less, cut_less}
-use Rattle.search.proofs.frames.search.Given as given
-use Rattle.search.proofs.frames.search.Goals as goal
+use Rattle.search.proofs.frames.find.Given as given
+use Rattle.search.proofs.frames.find.Goals as goal
 
 -- the first frame is the target's
 start_target : (g : given.Over) (fs : List (Frame g.row.K-Row.Denot)) (row : g.row.K-Row.Denot) (x : g.row.K.Denot) → 0 < length fs → row ≡ g.K.Kind.plain x → start g.K.Kind.holds g.K.Kind.region (set fs 0 (record { row = row; position = 0 })) ≡ Some x
@@ -51,14 +51,12 @@ returns-in-Found g c =
     let holds = g.K.Kind.holds in
     let first = start_target g _ _ c.args.target (omega arith) c.row.ensures in
     let found = c.in-Found.ensures in
-    let inside = top_inside _ _ _ _ (omega arith) (last_read _ _ _ c.loop-count-test.true c.loop-count.invariant.few c.index-frames-count.is) c.loop-count.invariant _ (sym c.read.ensures ∙ c.in-Some.is) in (
-      omega arith,
-      record {
-        held = subst (λ o. Within holds g.K.Kind.region o c.pick.result) first (inside _ c.pick.ensures);
-        says = found.1 _ c.pick.ensures;
-        met = found.0;
-      },
-    )
+    let inside = top_inside _ _ _ _ (omega arith) (last_read _ _ _ c.loop-count-test.true c.loop-count.invariant.few c.index-frames-count.is) c.loop-count.invariant _ (sym c.read.ensures ∙ c.in-Some.is) in
+    record {
+      held = subst (λ o. Within holds g.K.Kind.region o c.pick.result) first (inside _ c.pick.ensures);
+      says = found.1 _ c.pick.ensures;
+      met = found.0;
+    }
 
 pub bounds-frames-count-in-Cut-2 : goal.bounds-frames-count-in-Cut-2
 bounds-frames-count-in-Cut-2 g c =
@@ -89,10 +87,8 @@ loop-count-preserved g c =
 pub returns : goal.returns
 returns g c =
     let holds = g.K.Kind.holds in
-    let first = start_target g _ _ c.args.target (omega arith) c.row.ensures in (
-      omega arith,
-      λ v m h says met.
-          let lies = c.loop-count.invariant.all v m (subst (λ o. Within holds g.K.Kind.region o v) (sym first) h) says met in
-          let below = lies.2 in
-          omega arith,
-    )
+    let first = start_target g _ _ c.args.target (omega arith) c.row.ensures in
+    λ v m h says met.
+    let lies = c.loop-count.invariant.all v m (subst (λ o. Within holds g.K.Kind.region o v) (sym first) h) says met in
+    let below = lies.2 in
+    omega arith

@@ -1,6 +1,6 @@
 use Rattle.search.proofs.Stack.{Held, Within, start, listing}
 use Rattle.search.proofs.Weight.{heft, weight}
-use Rattle.search.proofs.frames.search.Given as goal
+use Rattle.search.proofs.frames.find.Given as goal
 
 abbrev pub invariant-loop-count : goal.invariant-loop-count
 invariant-loop-count g l =
