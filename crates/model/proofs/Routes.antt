@@ -6,7 +6,7 @@ use Rattle.model.specs.Subtree.{Sub, self, Way, up, across, down}
 use Rattle.model.specs.declared.path.Hop.{Hop}
 use Rattle.model.proofs.Subtrees.{hangs_one, lies_one, sub_up, above_less, sub_le, parent, crossing, walk_in, walk_out, child_one, branch_one, sub_root, sub_dec, under_dec, child}
 
-hop_path : (h k : Hop) → h.firewall ≡ k.firewall → h.entered ≡ k.entered → h.left ≡ k.left → h.reached ≡ k.reached → h ≡ k
+pub hop_path : (h k : Hop) → h.firewall ≡ k.firewall → h.entered ≡ k.entered → h.left ≡ k.left → h.reached ≡ k.reached → h ≡ k
 hop_path h k a b c d = λ i. record { firewall = a i; entered = b i; left = c i; reached = d i }
 
 -- A list of hops, each on the way to v.

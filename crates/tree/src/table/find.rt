@@ -26,14 +26,23 @@ impl TreeTable {
     pub fn hop_through(&self, from: usize, to: usize, firewall: usize) -> Option<Hop>
         ensures { HopThroughOf (shape_of self.now) from to firewall result }
     {
-        let mut at = from;
-        while let Some(hop) = self.next_hop(at, to) {
-            if hop.firewall == firewall {
-                return Some(hop);
-            }
-            at = hop.reached;
+        if !self.both_exist(from, to) {
+            return None;
         }
-        None
+        let near = self.branch_toward(firewall, from);
+        let far = self.branch_toward(firewall, to);
+        // The route goes through it just where the two are on different sides.
+        if near == far {
+            return None;
+        }
+        let here = self.side(firewall, near);
+        let there = self.side(firewall, far);
+        Some(Hop {
+            firewall,
+            entered: here.interface,
+            left: there.interface,
+            reached: there.node,
+        })
     }
 
     /// The route from one domain to another, with at most one hop for each firewall; nothing where one
