@@ -157,5 +157,5 @@ module _ {A R V W : Type 0} (addr : A → V → Type 0) (rests : R → W → Typ
   one_route a r es law u v is-u is-v =
       let sound = (grown_plain addr rests a r es law).sound in
       let s = (plain a r es).shape in
-      let (hs, route, _) = route_exists s sound u v is-u is-v in
+      let (hs, route) = route_exists s sound u v is-u is-v in
       (hs, route, λ ks other. route_one s sound u v ks hs other route, route_back s u v hs route)

@@ -100,7 +100,7 @@ route_grows s n more u v hs r = record { walk = walk_grows s n more hs u v r.wal
 -- a route between two of its domains is the one that it was
 route_old : (s n : Shape) → Grows s n → Sound s → Sound n → (u v : ℕ) → Domain s u → Domain s v → (hs : List Hop) → Route n u v hs → Route s u v hs
 route_old s n more ok new u v is-u is-v hs r =
-    let (ks, old, _) = route_exists s ok u v is-u is-v in
+    let (ks, old) = route_exists s ok u v is-u is-v in
     let same = route_one n new u v ks hs (route_grows s n more u v ks old) r in
     subst (Route s u v) same old
 

@@ -2,6 +2,7 @@ pub mod Firsts
 pub mod Rows
 pub mod Subtrees
 pub mod Routes
+pub mod Lengths
 pub mod Growth
 pub mod Grown
 pub mod Meanings

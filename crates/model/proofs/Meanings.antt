@@ -10,7 +10,7 @@ use Rattle.model.specs.Packets.{Matches}
 use Rattle.model.specs.Properties.{Of, Guarded, Against, BreaksIn}
 use Rattle.model.specs.Record.{plain, then_tree, tree_from, Right, LawfulFrom}
 use Rattle.model.specs.Shape.{Domain}
-use Rattle.model.specs.Theorems.{OneDomain, OneDecision, CutShort, OneMore, BreaksThereOnly}
+use Rattle.model.specs.Theorems.{OneDomain, OneDecision, CutShort, BreaksThereOnly}
 use Rattle.model.specs.Tree.{Tree, Block, start, rules_of, with_rules}
 use Rattle.model.specs.declared.answers.Recorded.{Recorded}
 use Rattle.model.specs.declared.path.Hop.{Hop}
@@ -43,9 +43,6 @@ module _ {A R V W : Type 0} (addr : A → V → Type 0) (rests : R → W → Typ
   lawful_more t (d ∷ es) e law right next =
       let more = lawful_more (then_tree t d) es e law.2 right next in
       ((law.0, law.1, more.0), more.1)
-
-  pub one_more : OneMore addr rests
-  one_more a r es e law right next = lawful_more (start a r) es e law right next
 
   -- another firewall's list is as it was
   rules_elsewhere : (t : Tree A R) (f g : ℕ) (l : List (Rule A R)) → (g ≡ f → ⊥) → rules_of (with_rules t f l) g ≡ rules_of t g

@@ -67,6 +67,18 @@ module _ (s : Shape) (ok : Sound s) where
   joined_domain f d i (inl h) = ok.hangs f d i h
   joined_domain f d i (inr (k, e, at)) = let h = nth_within s.domains k _ at in omega arith
 
+  pub joined_within : (f d i : ℕ) → Joined s f d i → f < length s.firewalls
+  joined_within f d i (inl h) = nth_within s.firewalls f _ h
+  joined_within f d i (inr l) = let (c, j, h, less) = ok.falls d f i l in nth_within s.firewalls f _ h
+
+  -- a walk with a hop starts and ends at domains that there are
+  walk_end : (u v : ℕ) (hs : List Hop) → Walk s u hs v → Domain s u → Domain s v
+  walk_end u v [] walk in-s = omega arith
+  walk_end u v (h ∷ hs) walk in-s = walk_end h.reached v hs walk.2 (joined_domain h.firewall h.reached h.left walk.1)
+
+  pub walk_domains : (u v : ℕ) (h : Hop) (hs : List Hop) → Walk s u (h ∷ hs) v → Domain s u × Domain s v
+  walk_domains u v h hs walk = let in-u = joined_domain h.firewall u h.entered walk.0 in (in-u, walk_end u v (h ∷ hs) walk in-u)
+
   -- a hop through another firewall than e's own leaves no subtree of e, nor enters it
   pub crossing : (e f i g x a y b : ℕ) → Lies s e f i → (g ≡ f → ⊥) → Joined s g x a → Joined s g y b → Sub s e x → Sub s e y
   crossing e f i g x a y b l n (inl p) (inl q) r = subst (Sub s e) (hangs_one s g x a y b p q).0 r

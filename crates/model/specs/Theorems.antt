@@ -1,7 +1,7 @@
 -- What the definitions are known to mean: theorems about every tree that a lawful record gives.
 use Rattle.std.specs.Prelude.{◌≡◌, ℕ, List, [], ◌∷◌, ◌++◌}
 use Rattle.model.specs.Packets.{Decided, InWhole, Complete}
-use Rattle.model.specs.Properties.{Of, Kept, BreaksAt, Guarded}
+use Rattle.model.specs.Properties.{Of, Kept, BreaksAt}
 use Rattle.model.specs.Record.{plain, then_tree, Right, Lawful}
 use Rattle.model.specs.Refusals.{number, Applies}
 use Rattle.model.specs.Shape.{Domain, Route, back}
@@ -56,12 +56,6 @@ module _ {A R V W : Type 0} (addr : A → V → Type 0) (rests : R → W → Typ
   -- a lawful record stays lawful when it is cut short
   abbrev pub CutShort : Type 0
   CutShort = (a : A) (r : R) (es fs : List (Recorded A R V W)) → Lawful addr rests a r (es ++ fs) → Lawful addr rests a r es
-
-  -- a lawful record with one more entry, whose answer is right and which leaves what stands guarded, is lawful, and its tree is
-  -- the one after that entry
-  abbrev pub OneMore : Type 0
-  OneMore = (a : A) (r : R) (es : List (Recorded A R V W)) (e : Recorded A R V W) → Lawful addr rests a r es → Right addr rests (plain a r es) e.call e.lent e.answer
-      → Guarded addr rests (then_tree (plain a r es) e) → Lawful addr rests a r (es ++ (e ∷ [])) × (plain a r (es ++ (e ∷ [])) ≡ then_tree (plain a r es) e)
 
   -- a lawful record with one more entry, whose answer is right, is lawful, and its tree is the one after that entry
   abbrev pub OneRightMore : Type 0

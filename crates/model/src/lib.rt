@@ -19,6 +19,6 @@ pub use path::{Hop, Uplink};
 pub use rules::{Decision, Header, Packet, PacketValue, Property, Rule};
 pub use theorems::{
     addresses_have_one_domain, complete_lists_decide_once, edits_break_there_only,
-    lawful_records_can_be_cut_short, lawful_records_grow, refusals_agree,
-    right_entries_keep_records_lawful, routes_are_unique,
+    lawful_records_can_be_cut_short, refusals_agree, right_entries_keep_records_lawful,
+    routes_are_unique,
 };

@@ -1,6 +1,6 @@
 // What the statement is known to mean. Each function's contract is a theorem about every lawful
 // record, for every kind of addresses and of rests.
-ghost use Rattle.model.specs.Theorems.{OneRoute, OneDomain, OneDecision, OneRefusal, CutShort, OneMore, OneRightMore, BreaksThereOnly};
+ghost use Rattle.model.specs.Theorems.{OneRoute, OneDomain, OneDecision, OneRefusal, CutShort, OneRightMore, BreaksThereOnly};
 
 use kinds::Kind;
 
@@ -27,11 +27,6 @@ pub fn routes_are_unique<A: Kind, R: Kind>()
 // Two refusals of one call with one number agree in all that is not free.
 pub fn refusals_agree<A: Kind, R: Kind>()
     ensures { OneRefusal A.Kind.holds R.Kind.holds }
-{}
-
-// A lawful record grows by an entry that is right and leaves what stands guarded.
-pub fn lawful_records_grow<A: Kind, R: Kind>()
-    ensures { OneMore A.Kind.holds R.Kind.holds }
 {}
 
 // A lawful record grows by any entry whose answer is right.

@@ -3,3 +3,4 @@ pub mod Links
 pub mod Tables
 pub mod Climbs
 pub mod Paths
+pub mod Sides

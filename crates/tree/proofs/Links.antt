@@ -1,19 +1,14 @@
 -- What the links of a tree say of the domains that a firewall is joined to.
 use Rattle.std.proofs.Common.{◌≡◌, ℕ, suc, Bool, subst, ◌<◌, ◌≤◌, length, true, arith, Option, Some, None, MatchOption, Decides, is_some, sym, refl, inl, inr}
 use Rattle.std.specs.List.{slice_get}
-use Rattle.std.proofs.lemmas.Option.{slice_get_within}
 use Rattle.model.specs.Shape.{Shape, Hangs, Lies, Joined, Sound}
 use Rattle.model.specs.declared.path.Uplink.{Uplink}
-use Rattle.model.proofs.Subtrees.{hangs_one}
+use Rattle.model.proofs.Subtrees.{hangs_one, joined_within}
 
 -- no domain is joined to a firewall that there is not
 pub joined_none : (s : Shape) → Sound s → (f : ℕ) → None ≡ slice_get s.firewalls f → (d i : ℕ) → Joined s f d i → ⊥
 joined_none s ok f none d i (inl h) = cc
 joined_none s ok f none d i (inr l) = let (c, j, h, less) = ok.falls d f i l in cc
-
-joined_within : (s : Shape) → Sound s → (f d i : ℕ) → Joined s f d i → f < length s.firewalls
-joined_within s ok f d i (inl h) = slice_get_within s.firewalls f _ h
-joined_within s ok f d i (inr l) = let (c, j, h, less) = ok.falls d f i l in slice_get_within s.firewalls f _ h
 
 -- a firewall that two domains are joined to, sought among all that there are
 module _ (s : Shape) (ok : Sound s) (one other : ℕ) where

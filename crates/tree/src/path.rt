@@ -5,8 +5,8 @@ use tables::FixedVec;
 
 pub mod read;
 
-// A route from u to v has at most u + v hops.
-const HOPS: usize = 2 * ROWS;
+// A route enters each firewall at most once, and a table has no more firewalls than rows for them.
+const HOPS: usize = ROWS;
 
 #[derive(Clone, Copy)]
 pub struct Route {

@@ -1,13 +1,13 @@
 -- What another list for one firewall does to a property that was kept.
 use Rattle.std.proofs.Common.{◌≡◌, ℕ, ◌<◌, List, [], length, Some, None, Option, unwrap_or, sym, refl, ap, ◌∙◌, subst}
 use Rattle.std.specs.List.{slice_get}
-use Rattle.search.specs.First.{First, Nowhere}
+use Rattle.search.specs.First.{First}
 use Rattle.search.proofs.Positions.{nth_set_same}
 use Rattle.model.specs.Limits.{max_interfaces}
 use Rattle.model.specs.Packets.{Decided}
 use Rattle.model.specs.Properties.{Against, BreaksIn, BreaksFirst, Kept}
 use Rattle.model.specs.Refusals.{Broken}
-use Rattle.model.specs.Shape.{Domain, Route, Sound}
+use Rattle.model.specs.Shape.{Route, Sound}
 use Rattle.model.specs.Tree.{Tree, rules_of, with_rules}
 use Rattle.model.specs.declared.path.Hop.{Hop}
 use Rattle.model.specs.declared.rules.Decision.{Decision}
@@ -18,8 +18,9 @@ use Rattle.model.specs.declared.rules.Rule.{Rule}
 use Rattle.model.proofs.Meanings.{breaks_there_only}
 use Rattle.model.proofs.Routes.{route_one}
 use Rattle.checks.specs.Breaks.{decided_against, BreaksList, BreakFound}
-use Rattle.verdicts.specs.Edited.{Through, BreakAtFound}
-use Rattle.verdicts.proofs.Hops.{firewall_one, hop_joined, walk_domains}
+use Rattle.tree.specs.Path.{Through, HopThroughOf}
+use Rattle.verdicts.specs.Edited.{BreakAtFound}
+use Rattle.verdicts.proofs.Hops.{firewall_one, hop_joined}
 
 module _ {A R V W : Type 0} (addr : A → V → Type 0) (rests : R → W → Type 0) where
   -- to decide against a sort is to have the other decision
@@ -36,23 +37,17 @@ module _ {A R V W : Type 0} (addr : A → V → Type 0) (rests : R → W → Typ
     rules_there : f < length t.lists → rules_of (with_rules t f rs) f ≡ rs
     rules_there less = ap (λ (o : Option (List (Rule A R))). unwrap_or o []) (nth_set_same t.lists f rs less)
 
-    -- where one of its domains is missing, no packet breaks the property
-    pub no_route : (Domain t.shape p.from × Domain t.shape p.to → ⊥) → Broken addr rests (with_rules t f rs) p → ⊥
-    no_route none (g, k, b) = none (walk_domains t.shape ok b.hops p.from p.to b.route.walk b.place b.hop b.first.here)
-
-    module _ (hs : List Hop) (route : Route t.shape p.from p.to hs) (kept : Kept addr rests t p) where
-      -- a break is in a hop of this route, through f
-      on_route : (g : ℕ) (k : Packet V W) (b : BreaksFirst addr rests (with_rules t f rs) p g k) → (slice_get hs b.place ≡ Some b.hop) × (b.hop.firewall ≡ f)
-      on_route g k b =
-          let there = breaks_there_only addr rests t f rs p kept g k (record { hops = b.hops; place = b.place; hop = b.hop; route = b.route; on = b.first.here; named = b.named; breaks = b.breaks }) in
-          let same = route_one t.shape ok p.from p.to b.hops hs b.route route in
-          (subst (λ (l : List Hop). slice_get l b.place ≡ Some b.hop) same b.first.here, b.named ∙ there)
+    module _ (kept : Kept addr rests t p) where
+      -- a break is in a hop through f
+      through : (g : ℕ) (k : Packet V W) (b : BreaksFirst addr rests (with_rules t f rs) p g k) → b.hop.firewall ≡ f
+      through g k b =
+          b.named ∙ breaks_there_only addr rests t f rs p kept g k (record { hops = b.hops; place = b.place; hop = b.hop; route = b.route; on = b.first.here; named = b.named; breaks = b.breaks })
 
       -- where the route does not go through f, no packet breaks the property
-      pub off_route : Nowhere (Through f) hs → Broken addr rests (with_rules t f rs) p → ⊥
-      off_route none (g, k, b) = let (on, is) = on_route g k b in none b.place b.hop on is
+      pub off_route : HopThroughOf t.shape p.from p.to f None → Broken addr rests (with_rules t f rs) p → ⊥
+      off_route none (g, k, b) = none b.hops b.route b.place b.hop b.first.here (through g k b)
 
-      module _ (less : f < length t.lists) (j : ℕ) (h : Hop) (at : First (Through f) hs j h) where
+      module _ (less : f < length t.lists) (h : Hop) (hs : List Hop) (j : ℕ) (route : Route t.shape p.from p.to hs) (at : First (Through f) hs j h) where
         low : h.entered < max_interfaces
         low = let (d, joined) = hop_joined t.shape hs p.from p.to route.walk j h at.here in ok.low h.firewall d h.entered joined
 
@@ -97,8 +92,9 @@ module _ {A R V W : Type 0} (addr : A → V → Type 0) (rests : R → W → Typ
 
         keeps_here : ((k : Packet V W) → BreaksList addr rests rs p h.entered k → ⊥) → Broken addr rests (with_rules t f rs) p → ⊥
         keeps_here none (g, k, b) =
-            let (on, is) = on_route g k b in
-            let same = firewall_one hs route.firewalls_once b.place j b.hop h on at.here (is ∙ sym at.fit) in
+            let along = route_one t.shape ok p.from p.to b.hops hs b.route route in
+            let on = subst (λ (l : List Hop). slice_get l b.place ≡ Some b.hop) along b.first.here in
+            let same = firewall_one hs route.firewalls_once b.place j b.hop h on at.here (through g k b ∙ sym at.fit) in
             none k (broken_list k (subst (λ (x : Hop). BreaksIn addr rests (with_rules t f rs) p x k) same b.breaks))
 
         -- what is found in the list, entered by this hop, is found in the tree

@@ -1,10 +1,9 @@
 -- The hops of a walk.
-use Rattle.std.proofs.Common.{◌≡◌, ℕ, zero, suc, List, [], ◌∷◌, Some, sym, ap, ◌∙◌, subst, arith}
+use Rattle.std.proofs.Common.{◌≡◌, ℕ, zero, suc, List, [], ◌∷◌, Some, sym, ap, ◌∙◌, subst}
 use Rattle.std.specs.List.{slice_get}
 use Rattle.kinds.proofs.Provided.{none_some}
-use Rattle.model.specs.Shape.{Shape, Domain, Joined, Walk, Absent, Distinct, firewalls_on, Sound}
+use Rattle.model.specs.Shape.{Shape, Joined, Walk, Absent, Distinct, firewalls_on}
 use Rattle.model.specs.declared.path.Hop.{Hop}
-use Rattle.model.proofs.Subtrees.{joined_domain}
 
 absent_at : (x : ℕ) (hs : List Hop) → Absent x (firewalls_on hs) → (k : ℕ) (h : Hop) → slice_get hs k ≡ Some h → x ≡ h.firewall → ⊥
 absent_at x [] none k h e = none_some e
@@ -23,21 +22,8 @@ firewall_one (h ∷ hs) once (suc j) zero a b p q is =
     absurd (absent_at h.firewall hs once.0 j a p (ap (λ (z : Hop). z.firewall) same ∙ sym is))
 firewall_one (h ∷ hs) once (suc j) (suc k) a b p q is = firewall_one hs once.1 j k a b p q is
 
-module _ (s : Shape) where
-  -- each hop enters its firewall from a domain that is joined to it
-  pub hop_joined : (hs : List Hop) (u v : ℕ) → Walk s u hs v → (k : ℕ) (h : Hop) → slice_get hs k ≡ Some h → (d : ℕ) × Joined s h.firewall d h.entered
-  hop_joined [] u v walk k h e = none_some e
-  hop_joined (x ∷ hs) u v walk zero h e = let same : x ≡ h = cc in (u, subst (λ (y : Hop). Joined s y.firewall u y.entered) same walk.0)
-  hop_joined (x ∷ hs) u v walk (suc k) h e = hop_joined hs x.reached v walk.2 k h e
-
-  module _ (ok : Sound s) where
-    walk_end : (hs : List Hop) (u v : ℕ) → Walk s u hs v → Domain s u → Domain s v
-    walk_end [] u v walk in-s = omega arith
-    walk_end (h ∷ hs) u v walk in-s = walk_end hs h.reached v walk.2 (joined_domain s ok h.firewall h.reached h.left walk.1)
-
-    -- a walk with a hop starts and ends at domains that there are
-    pub walk_domains : (hs : List Hop) (u v : ℕ) → Walk s u hs v → (k : ℕ) (h : Hop) → slice_get hs k ≡ Some h → Domain s u × Domain s v
-    walk_domains [] u v walk k h e = none_some e
-    walk_domains (x ∷ hs) u v walk k h e =
-        let in-u = joined_domain s ok x.firewall u x.entered walk.0 in
-        (in-u, walk_end (x ∷ hs) u v walk in-u)
+-- each hop enters its firewall from a domain that is joined to it
+pub hop_joined : (s : Shape) (hs : List Hop) (u v : ℕ) → Walk s u hs v → (k : ℕ) (h : Hop) → slice_get hs k ≡ Some h → (d : ℕ) × Joined s h.firewall d h.entered
+hop_joined s [] u v walk k h e = none_some e
+hop_joined s (x ∷ hs) u v walk zero h e = let same : x ≡ h = cc in (u, subst (λ (y : Hop). Joined s y.firewall u y.entered) same walk.0)
+hop_joined s (x ∷ hs) u v walk (suc k) h e = hop_joined s hs x.reached v walk.2 k h e

@@ -1,28 +1,27 @@
 -- What becomes of packets in the lists of a route.
-use Rattle.std.proofs.Common.{◌≡◌, ℕ, ◌+◌, List, map, Some, None, Option, sym, refl, ap, ◌∙◌, subst, subst₂, inl, inr, arith}
+use Rattle.std.proofs.Common.{◌≡◌, ℕ, List, map, Some, None, Option, sym, refl, ap, ◌∙◌, subst, subst₂, inl, inr, arith}
 use Rattle.std.specs.List.{slice_get}
 use Rattle.kinds.specs.declared.pair.Pair.{Pair}
 use Rattle.kinds.specs.declared.set.SetRow.{SetRow}
-use Rattle.search.specs.First.{Before}
+use Rattle.search.specs.First.{First, Nowhere}
 use Rattle.search.specs.List.{Says}
 use Rattle.search.specs.declared.list.Entry.{Entry}
 use Rattle.search.specs.declared.list.Match.{Match}
-use Rattle.search.proofs.Positions.{before_more}
 use Rattle.search.proofs.Walks.{first_one, matched}
 use Rattle.model.specs.Packets.{Decided, Discarded, decision_number, entering, value_of}
 use Rattle.model.specs.Properties.{Of}
-use Rattle.model.specs.Record.{Stops, Sent}
-use Rattle.model.specs.Shape.{Domain, Route}
+use Rattle.model.specs.Record.{Stops, Way, Sent}
+use Rattle.model.specs.Shape.{Shape, Domain, Route, Sound}
 use Rattle.model.specs.Tree.{Tree, Block, rules_of}
 use Rattle.model.specs.declared.path.Hop.{Hop}
 use Rattle.model.specs.declared.rules.Decision.TheVariants.{Discard}
 use Rattle.model.specs.declared.rules.Header.{Header}
 use Rattle.model.specs.declared.rules.Packet.{Packet}
 use Rattle.model.specs.declared.rules.Rule.{Rule}
+use Rattle.model.proofs.Routes.{route_exists}
 use Rattle.checks.specs.Rows.{rule_entry}
 use Rattle.checks.proofs.Lists.{Rows, says_decided, decided_says, says_unmatched}
-use Rattle.verdicts.specs.Passage.{passage_answer, StoppedOn, StopFound}
-use Rattle.verdicts.specs.declared.passage.Stop.{Stop}
+use Rattle.verdicts.specs.Passage.{passage_answer}
 
 -- the rows `es` of a list say whether it discards a packet
 module _ {A R V W X Y : Type 0} (addr : A → V → Type 0) (rests : R → W → Type 0) (pa : A → X) (pr : R → Y) (ra : X → Option A) (rr : Y → Option R)
@@ -51,20 +50,22 @@ module _ {A R V W X Y : Type 0} (addr : A → V → Type 0) (rests : R → W →
 
 module _ {A R V W : Type 0} (addr : A → V → Type 0) (rests : R → W → Type 0) (t : Tree A R) where
   -- the domain of an address is one that there is, where those of the blocks are
-  pub of_domain : ((k : ℕ) (b : Block A) → slice_get t.blocks k ≡ Some b → Domain t.shape b.domain) → (v : V) (d : ℕ) → Of addr rests t v d → Domain t.shape d
+  of_domain : ((k : ℕ) (b : Block A) → slice_get t.blocks k ≡ Some b → Domain t.shape b.domain) → (v : V) (d : ℕ) → Of addr rests t v d → Domain t.shape d
   of_domain there v d (inl (k, b, at, held, is)) = subst (Domain t.shape) is (there k b at)
   of_domain there v d (inr (none, _)) = omega arith
 
-  module _ (h : Header V W) where
-    -- along some hops, none of which before place n stops the header
-    module _ (hops : List Hop) (n : ℕ) (p : Hop) (here : slice_get hops n ≡ Some p) (before : Before (Stops addr rests t h) hops n) where
-      pub stops_here : (k : ℕ) → Decided addr rests (rules_of t p.firewall) (entering h p.entered) k Discard → StoppedOn addr rests t h hops p.firewall k
-      stops_here k decided = record { place = n; hop = p; first = record { here = here; fit = (k, decided); before = before }; named = refl; rule = decided }
+  -- what becomes of the header along its way
+  module _ (h : Header V W) (u v : ℕ) (from : Of addr rests t h.source u) (to : Of addr rests t h.destination v) (s : Shape) (is : s ≡ t.shape) where
+    way_on : (hs : List Hop) → Route s u v hs → Way addr rests t h hs
+    way_on hs route = record { u = u; v = v; from = from; to = to; route = subst (λ x. Route x u v hs) is route }
 
-      pub past_stop : (Stops addr rests t h p → ⊥) → Before (Stops addr rests t h) hops (n + 1)
-      past_stop not = before_more (Stops addr rests t h) hops n p here before not
+    pub sent_stopped : (p : Hop) (k : ℕ) → Decided addr rests (rules_of t p.firewall) (entering h p.entered) k Discard → (hs : List Hop) × (n : ℕ) × Route s u v hs × First (Stops addr rests t h) hs n p
+        → Sent addr rests t h (passage_answer (Some (record { firewall = p.firewall; position = k })))
+    sent_stopped p k decided (hs, n, route, first) = (hs, n, p, way_on hs route, first, refl, decided)
 
-    -- what becomes of the header along its way
-    pub sent_along : (u v : ℕ) → Of addr rests t h.source u → Of addr rests t h.destination v → (hops : List Hop) → Route t.shape u v hops → (r : Option Stop) → StopFound addr rests t h hops r → Sent addr rests t h (passage_answer r)
-    sent_along u v from to hops route None none = (hops, record { u = u; v = v; from = from; to = to; route = route }, none)
-    sent_along u v from to hops route (Some stop) s = (hops, s.place, s.hop, record { u = u; v = v; from = from; to = to; route = route }, s.first, s.named, s.rule)
+    pub sent_passed : Sound s → ((k : ℕ) (b : Block A) → slice_get t.blocks k ≡ Some b → Domain t.shape b.domain) → ((hs : List Hop) → Route s u v hs → Nowhere (Stops addr rests t h) hs) → Sent addr rests t h (passage_answer None)
+    sent_passed ok there none =
+        let in-u = subst (λ x. Domain x u) (sym is) (of_domain there h.source u from) in
+        let in-v = subst (λ x. Domain x v) (sym is) (of_domain there h.destination v to) in
+        let (hs, route) = route_exists s ok u v in-u in-v in
+        (hs, way_on hs route, none hs route)

@@ -1,6 +1,5 @@
 -- The first break of a property on its route.
-use Rattle.std.specs.Prelude.{◌≡◌, ℕ, List, Some, None, Option}
-use Rattle.search.specs.First.{First, Nowhere}
+use Rattle.std.specs.Prelude.{Some, None, Option}
 use Rattle.model.specs.Properties.{BreaksIn, BrokenIn, Kept, BreaksFirst}
 use Rattle.model.specs.Tree.{Tree}
 use Rattle.model.specs.declared.path.Hop.{Hop}
@@ -13,19 +12,6 @@ module _ {A R V W : Type 0} (addr : A → V → Type 0) (rests : R → W → Typ
   abbrev pub HopFound : Tree A R → Property A R → Hop → Option (Packet V W) → Type 0
   HopFound t p h None = BrokenIn addr rests t p h → ⊥
   HopFound t p h (Some k) = BreaksIn addr rests t p h k
-
-  -- the first hop in which the property is broken, by its firewall, with a packet that breaks it there
-  pub record BreaksOn (t : Tree A R) (p : Property A R) (hops : List Hop) (b : Break V W) : Type 0 where
-    pub place : ℕ
-    pub hop : Hop
-    pub first : First (BrokenIn addr rests t p) hops place hop
-    pub named : hop.firewall ≡ b.firewall
-    pub breaks : BreaksIn addr rests t p hop b.packet
-
-  -- the same along some hops
-  abbrev pub HopsFound : Tree A R → Property A R → List Hop → Option (Break V W) → Type 0
-  HopsFound t p hops None = Nowhere (BrokenIn addr rests t p) hops
-  HopsFound t p hops (Some b) = BreaksOn t p hops b
 
   -- the first firewall on the route at which a packet breaks the property, with such a packet, or nothing exactly where
   -- it is kept

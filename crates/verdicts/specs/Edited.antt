@@ -1,21 +1,13 @@
 -- The first standing property that another list for one firewall breaks.
-use Rattle.std.specs.Prelude.{◌≡◌, ℕ, List, Some, None, Option, MatchOption}
-use Rattle.search.specs.First.{First, Nowhere}
+use Rattle.std.specs.Prelude.{ℕ, List, Some, None, Option}
+use Rattle.search.specs.First.{Nowhere}
 use Rattle.model.specs.Properties.{BreaksFirst}
 use Rattle.model.specs.Refusals.{Broken, BreaksOne}
 use Rattle.model.specs.Tree.{Tree, with_rules}
-use Rattle.model.specs.declared.path.Hop.{Hop}
 use Rattle.model.specs.declared.rules.Packet.{Packet}
 use Rattle.model.specs.declared.rules.Property.{Property}
 use Rattle.model.specs.declared.rules.Rule.{Rule}
 use Rattle.verdicts.specs.declared.edited.Broken.{Broken as BrokenOf}
-
-abbrev pub Through : ℕ → Hop → Type 0
-Through f h = h.firewall ≡ f
-
--- the first hop through firewall f, or nothing exactly where none is
-abbrev pub ThroughFound : List Hop → ℕ → Option Hop → Type 0
-ThroughFound hs f r = MatchOption r (Nowhere (Through f) hs) (λ h. (k : ℕ) × First (Through f) hs k h)
 
 module _ {A R V W : Type 0} (addr : A → V → Type 0) (rests : R → W → Type 0) where
   -- a packet that breaks the property first at f, once f has the list rs, or nothing exactly where none breaks it then

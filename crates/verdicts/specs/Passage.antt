@@ -1,14 +1,9 @@
 -- What becomes of a packet on its way.
-use Rattle.std.specs.Prelude.{◌≡◌, ℕ, List, Some, None, Option, MatchOption}
-use Rattle.search.specs.First.{First, Nowhere}
-use Rattle.model.specs.Packets.{Decided, Discarded, entering}
-use Rattle.model.specs.Record.{Stops}
-use Rattle.model.specs.Tree.{Tree, rules_of}
+use Rattle.std.specs.Prelude.{ℕ, List, Some, None, Option, MatchOption}
+use Rattle.model.specs.Packets.{Decided, Discarded}
 use Rattle.model.specs.declared.answers.Answer as answer
 use Rattle.model.specs.declared.answers.Answer.{Answer}
-use Rattle.model.specs.declared.path.Hop.{Hop}
 use Rattle.model.specs.declared.rules.Decision.TheVariants.{Discard}
-use Rattle.model.specs.declared.rules.Header.{Header}
 use Rattle.model.specs.declared.rules.Packet.{Packet}
 use Rattle.model.specs.declared.rules.Rule.{Rule}
 use Rattle.verdicts.specs.declared.passage.Stop.{Stop}
@@ -22,16 +17,3 @@ module _ {A R V W : Type 0} (addr : A → V → Type 0) (rests : R → W → Typ
   -- the position of the rule that discards the packet, or nothing exactly where the list does not discard it
   abbrev pub DiscardFound : List (Rule A R) → Packet V W → Option ℕ → Type 0
   DiscardFound rs k r = MatchOption r (Discarded addr rests rs k → ⊥) (λ n. Decided addr rests rs k n Discard)
-
-  -- the first hop whose firewall discards the header, and the rule there that does
-  pub record StoppedOn (t : Tree A R) (h : Header V W) (hops : List Hop) (f k : ℕ) : Type 0 where
-    pub place : ℕ
-    pub hop : Hop
-    pub first : First (Stops addr rests t h) hops place hop
-    pub named : hop.firewall ≡ f
-    pub rule : Decided addr rests (rules_of t f) (entering h hop.entered) k Discard
-
-  -- the first stop of the header along some hops, or nothing exactly where none discards it
-  abbrev pub StopFound : Tree A R → Header V W → List Hop → Option Stop → Type 0
-  StopFound t h hops None = Nowhere (Stops addr rests t h) hops
-  StopFound t h hops (Some s) = StoppedOn t h hops s.firewall s.position

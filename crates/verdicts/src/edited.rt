@@ -1,5 +1,5 @@
 // Standing properties that an edit of one firewall's list would break.
-ghost use Rattle.std.specs.Prelude.{◌≡◌, ℕ, ◌<◌, List, map, length, Some as Just, Decides};
+ghost use Rattle.std.specs.Prelude.{◌≡◌, ℕ, ◌<◌, List, map, length, Some as Just};
 ghost use Rattle.std.specs.List.{slice_get};
 ghost use Rattle.checks.specs.Rows.{RulesAre, PropertiesAre};
 ghost use Rattle.model.specs.Properties.{Kept};
@@ -7,11 +7,11 @@ ghost use Rattle.model.specs.Tree.{Tree};
 ghost use Rattle.model.specs.declared.rules.Property.{Property as PropertyOf};
 ghost use Rattle.model.specs.declared.rules.Rule.{Rule as RuleOf};
 ghost use Rattle.tree.specs.Table.{shape_of};
-ghost use Rattle.verdicts.specs.Edited.{Through, ThroughFound, BreakAtFound, EditFound};
+ghost use Rattle.verdicts.specs.Edited.{BreakAtFound, EditFound};
 
 use checks::{PacketRow, PropertyRow, RuleRow, find_break, read_property};
 use kinds::Kind;
-use model::{Hop, Packet, Property};
+use model::{Packet, Property};
 use search::Frame;
 use tree::TreeTable;
 
@@ -60,22 +60,6 @@ fn break_at<A: Kind, R: Kind>(
     requires { length list.now < length frames.old }
     ensures { (t : Tree A R) (rs : List (RuleOf A R)) → shape_of tree.now ≡ t.shape → firewall < length t.lists → RulesAre A.Kind R.Kind list.now rs → Kept A.Kind.holds R.Kind.holds t property → BreakAtFound A.Kind.holds R.Kind.holds t firewall rs property result }
 {
-    let route = tree.route(property.from, property.to)?;
-    let hop = hop_at(route.hops(), firewall)?;
+    let hop = tree.hop_through(property.from, property.to, firewall)?;
     find_break(list, property, hop.entered, frames)
-}
-
-// The first of the hops through the firewall, if there is one.
-fn hop_at(hops: &[Hop], firewall: usize) -> Option<Hop>
-    ensures { ThroughFound hops.now firewall result }
-{
-    hops.iter()
-        .find(|hop| goes_through(**hop, firewall))
-        .copied()
-}
-
-fn goes_through(hop: Hop, firewall: usize) -> bool
-    ensures { Decides result (Through firewall hop) }
-{
-    hop.firewall == firewall
 }

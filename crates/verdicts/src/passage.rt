@@ -8,7 +8,7 @@ ghost use Rattle.model.specs.Tree.{Tree, Block, rules_of};
 ghost use Rattle.model.specs.declared.rules.Rule.{Rule as RuleOf};
 ghost use Rattle.checks.specs.Rows.{block_entry, RulesAre};
 ghost use Rattle.verdicts.specs.Network.{Draws};
-ghost use Rattle.verdicts.specs.Passage.{passage_answer, DiscardFound, StopFound};
+ghost use Rattle.verdicts.specs.Passage.{passage_answer, DiscardFound};
 
 use crate::network::Network;
 use checks::{BlockRow, RuleRow, domain_of};
@@ -33,23 +33,16 @@ impl<A: Kind, R: Kind> Network<'_, A, R> {
     ) -> Option<Stop>
         ensures { (t : Tree A R) → Draws A.Kind.plain R.Kind.plain self.now t → blocks.now ≡ map (block_entry A.Kind.plain) t.blocks → ((k : ℕ) (b : Block A) → slice_get t.blocks k ≡ Some b → Domain t.shape b.domain) → Sent A.Kind.holds R.Kind.holds t header (passage_answer result) }
     {
-        let from = domain_of::<A, R>(blocks, header.source) as usize;
+        let mut at = domain_of::<A, R>(blocks, header.source) as usize;
         let to = domain_of::<A, R>(blocks, header.destination) as usize;
-        let route = self.tree.route(from, to)?;
-        self.stop_on(route.hops(), header)
-    }
-
-    // The first stop of a packet in these hops.
-    fn stop_on(&self, hops: &[Hop], header: Header<A::Value, R::Value>) -> Option<Stop>
-        ensures { (t : Tree A R) → Draws A.Kind.plain R.Kind.plain self.now t → StopFound A.Kind.holds R.Kind.holds t header hops.now result }
-    {
-        for hop in hops {
-            if let Some(position) = self.stop_in(*hop, header) {
+        while let Some(hop) = self.tree.next_hop(at, to) {
+            if let Some(position) = self.stop_in(hop, header) {
                 return Some(Stop {
                     firewall: hop.firewall,
                     position,
                 });
             }
+            at = hop.reached;
         }
         None
     }

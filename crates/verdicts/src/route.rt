@@ -2,7 +2,7 @@
 ghost use Rattle.std.specs.Prelude.{◌≡◌, ◌<◌, length};
 ghost use Rattle.model.specs.Limits.{max_list};
 ghost use Rattle.model.specs.Tree.{Tree};
-ghost use Rattle.verdicts.specs.Asked.{HopFound, HopsFound, AskedFound};
+ghost use Rattle.verdicts.specs.Asked.{HopFound, AskedFound};
 ghost use Rattle.verdicts.specs.Network.{Draws};
 
 use crate::network::Network;
@@ -29,27 +29,15 @@ impl<A: Kind, R: Kind> Network<'_, A, R> {
         requires { max_list < length frames.old }
         ensures { (t : Tree A R) → Draws A.Kind.plain R.Kind.plain self.now t → AskedFound A.Kind.holds R.Kind.holds t property result }
     {
-        let route = self.tree.route(property.from, property.to)?;
-        self.break_on(route.hops(), property, frames)
-    }
-
-    // The first of these hops in which a packet breaks the property.
-    fn break_on(
-        &self,
-        hops: &[Hop],
-        property: Property<A, R>,
-        frames: &mut [Frame<PacketRow<A::Row, R::Row>>],
-    ) -> Option<Break<A::Value, R::Value>>
-        requires { max_list < length frames.old }
-        ensures { (t : Tree A R) → Draws A.Kind.plain R.Kind.plain self.now t → HopsFound A.Kind.holds R.Kind.holds t property hops.now result }
-    {
-        for hop in hops {
-            if let Some(packet) = self.break_in(*hop, property, frames) {
+        let mut at = property.from;
+        while let Some(hop) = self.tree.next_hop(at, property.to) {
+            if let Some(packet) = self.break_in(hop, property, frames) {
                 return Some(Break {
                     firewall: hop.firewall,
                     packet,
                 });
             }
+            at = hop.reached;
         }
         None
     }

@@ -1,12 +1,12 @@
 // What is found by going up from a domain.
-ghost use Rattle.std.specs.Prelude.{◌≡◌, ℕ, ◌<◌, ◌≤◌, MatchOption, ◌≢◌};
-ghost use Rattle.model.specs.Shape.{Domain, Hangs, Lies, Depth};
+ghost use Rattle.std.specs.Prelude.{◌≡◌, ℕ, ◌<◌, ◌≤◌, IfSome, MatchOption, ◌≢◌};
+ghost use Rattle.model.specs.Shape.{Domain, Firewall, Hangs, Lies, Depth};
 ghost use Rattle.model.specs.Subtree.{Way};
-ghost use Rattle.tree.specs.Toward.{BranchOf, ChildOf};
+ghost use Rattle.tree.specs.Toward.{BranchOf, ChildOf, SideOf};
 ghost use Rattle.tree.specs.Table.{shape_of};
 
 use super::TreeTable;
-use model::Hop;
+use model::{Hop, Uplink};
 
 impl TreeTable {
     // How many firewalls are above a domain; nothing where there is no such domain.
@@ -32,7 +32,7 @@ impl TreeTable {
     }
 
     // The domain right below the firewall that has this domain in its subtree, if there is one.
-    fn branch_toward(&self, firewall: usize, domain: usize) -> Option<usize>
+    pub(crate) fn branch_toward(&self, firewall: usize, domain: usize) -> Option<usize>
         requires { Domain (shape_of self.now) domain }
         ensures { BranchOf (shape_of self.now) firewall domain result }
     {
@@ -59,6 +59,22 @@ impl TreeTable {
             return Some(domain);
         }
         self.child_toward(top, above)
+    }
+
+    // The domain that a firewall is joined to on one side, and the interface: this branch, or, where it
+    // is none, the domain above.
+    pub(crate) fn side(&self, firewall: usize, branch: Option<usize>) -> Uplink
+        requires firewall { Firewall (shape_of self.now) firewall }
+        requires branch { IfSome branch (λ e. (i : ℕ) × Lies (shape_of self.now) e firewall i) }
+        ensures { SideOf (shape_of self.now) firewall branch result.node result.interface }
+    {
+        match branch {
+            Some(domain) => Uplink {
+                node: domain,
+                interface: self.hop_up(domain).entered,
+            },
+            None => self.firewalls.as_slice()[firewall],
+        }
     }
 
     // The first hop of the way between two domains.

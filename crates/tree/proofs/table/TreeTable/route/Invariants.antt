@@ -1,10 +1,11 @@
-use Rattle.std.proofs.Common.{◌-◌, length}
 use Rattle.tables.specs.FixedVec.{used}
-use Rattle.tree.proofs.Paths.{OnWay}
+use Rattle.tree.specs.Table.{shape_of}
+use Rattle.tree.proofs.Paths.{Along, hops_left}
+use Rattle.tree.proofs.Tables.{sound_of}
 use Rattle.tree.proofs.table.TreeTable.route.Given as goal
 
-abbrev pub invariant-loop-at : goal.invariant-loop-at
-invariant-loop-at l = OnWay l.self l.from l.to (used l.hops) l.at
+abbrev pub invariant-loop-hop : goal.invariant-loop-hop
+invariant-loop-hop l = Along (shape_of l.self) l.from l.to (used l.hops) l.at
 
-abbrev pub decreases-loop-at : goal.decreases-loop-at
-decreases-loop-at l = 126 - length (used l.hops)
+abbrev pub decreases-loop-hop : goal.decreases-loop-hop
+decreases-loop-hop l = hops_left (shape_of l.self) (sound_of l.self) l.at l.to
