@@ -18,7 +18,7 @@ pub trait Kind: Copy {
 
     ghost region: { Self.Row → Option Self };
 
-    // Yes exactly when the region holds the value.
+    // Whether the region holds the value.
     fn has(self, value: Self::Value) -> bool
         ensures { Decides result (holds self value) };
 
@@ -26,8 +26,8 @@ pub trait Kind: Copy {
     fn meet(self, other: Self) -> Option<Self>
         ensures { MeetOf holds (holds self) (holds other) result };
 
-    // Cuts this region along the other; nothing exactly when they share no value or this one lies
-    // inside the other. Which part comes first is left open.
+    // Cuts this region along the other; nothing exactly when there is no common value, or no other
+    // one in this region. Which part comes first is left open.
     fn split(self, other: Self) -> Option<(Self, Self)>
         ensures { SplitOf holds (holds self) (holds other) result };
 

@@ -1,4 +1,4 @@
-// Two kinds side by side are again a kind.
+// A pair of kinds is a kind.
 ghost use Rattle.kinds.specs.Pair.{both, pair_holds};
 ghost use Rattle.kinds.specs.Listing.{finite_pairs};
 ghost use Rattle.kinds.specs.Made.{dec_both};
