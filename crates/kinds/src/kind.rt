@@ -2,12 +2,12 @@
 ghost use Rattle.std.specs.Prelude.{◌≡◌, Some, Decides, Option};
 ghost use Rattle.kinds.specs.Words.{MeetOf, SplitOf, Finite, Inhabited, Decided};
 
-// A field kind, implemented by the type of its regions. A region holds at least one value, and
-// finitely many; a kind is known by nothing but which values its regions hold.
+// A field kind, implemented by the type of its regions. No region is empty, and each has finitely
+// many values; a kind is known by nothing but which values its regions hold.
 pub trait Kind: Copy {
     type Value: Copy;
 
-    // How a region lies in a table: plain data, from which the region is made again by reading.
+    // How a region lies in a table: plain data, which is read to have the region again.
     type Row: Copy;
 
     // The meaning: which values a region holds.
