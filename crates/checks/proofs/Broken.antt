@@ -8,9 +8,9 @@ use Rattle.kinds.specs.declared.pair.Pair.{Pair}
 use Rattle.kinds.specs.declared.set.Set.{Set}
 use Rattle.search.specs.Answer.{Witness, Answered}
 use Rattle.search.specs.List.{Says, outcome}
-use Rattle.search.specs.Walk.{Hopeless}
+use Rattle.search.specs.Answer.{Hopeless}
 use Rattle.search.proofs.Walks.{matched}
-use Rattle.search.specs.declared.frames.Found.{Found}
+use Rattle.search.specs.declared.answer.Found.{Found}
 use Rattle.kinds.specs.declared.set.SetRow.{SetRow}
 use Rattle.search.specs.declared.list.Entry.{Entry}
 use Rattle.search.specs.declared.list.Match.{Match}

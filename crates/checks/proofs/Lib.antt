@@ -1,4 +1,3 @@
-pub mod Mapped
 pub mod Lists
 pub mod Broken
 pub mod Owners

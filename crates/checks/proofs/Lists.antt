@@ -17,7 +17,7 @@ use Rattle.model.specs.declared.rules.Decision.TheVariants.{Accept, Discard}
 use Rattle.model.specs.declared.rules.Packet.{Packet}
 use Rattle.model.specs.declared.rules.Rule.{Rule}
 use Rattle.checks.specs.Rows.{rule_row, rule_entry}
-use Rattle.checks.proofs.Mapped.{first_map, first_unmap, nowhere_map, nowhere_unmap}
+use Rattle.search.proofs.Mapped.{first_map, first_unmap, nowhere_map, nowhere_unmap}
 
 pub number_one : (w x : Decision) → decision_number w ≡ decision_number x → w ≡ x
 number_one Accept Accept e = refl

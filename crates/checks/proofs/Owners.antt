@@ -3,7 +3,7 @@ use Rattle.std.proofs.Common.{◌≡◌, ℕ, List, map, Some, None, Option, sym
 use native.Mathlib.Decide.{ℕ_discrete}
 use Rattle.search.specs.Answer.{Answered}
 use Rattle.search.specs.List.{row_holds, Says, outcome}
-use Rattle.search.specs.declared.frames.Found.{Found}
+use Rattle.search.specs.declared.answer.Found.{Found}
 use Rattle.search.specs.declared.list.Entry.{Entry}
 use Rattle.search.specs.declared.list.Match.{Match}
 use Rattle.search.specs.declared.list.Wish.TheVariants.{IsNot}
@@ -13,7 +13,7 @@ use Rattle.model.proofs.Firsts.{first_or_none}
 use Rattle.model.proofs.Meanings.{of_one}
 use Rattle.checks.specs.Addresses.{OwnedApart, AstrayFound, Home, domain_in}
 use Rattle.checks.specs.Rows.{block_entry}
-use Rattle.checks.proofs.Mapped.{first_map, first_unmap, nowhere_map, nowhere_unmap}
+use Rattle.search.proofs.Mapped.{first_map, first_unmap, nowhere_map, nowhere_unmap}
 
 -- the value that a search has found
 abbrev pub value_in : {V : Type 0} → Option (Found V) → Option V

@@ -9,7 +9,7 @@ use Rattle.search.proofs.Positions.{before_more, before_all}
 use Rattle.model.specs.declared.rules.Property.{Property}
 use Rattle.checks.specs.Rows.{property_row, property_with, property_of}
 use Rattle.checks.specs.declared.rows.PropertyRow.{PropertyRow}
-use Rattle.checks.proofs.Mapped.{nth_unmap}
+use Rattle.search.proofs.Mapped.{nth_unmap}
 
 module _ {A R X Y : Type 0} (pa : A → X) (pr : R → Y) (ra : X → Option A) (rr : Y → Option R)
     (reads-a : (x : A) → ra (pa x) ≡ Some x) (reads-r : (x : R) → rr (pr x) ≡ Some x) where

@@ -14,7 +14,7 @@ use Rattle.examples.specs.Examples.{Examples, range, prefix, ip, mask, range_row
 use Rattle.search.proofs.Positions.{before_none, before_more, before_all}
 use Rattle.kinds.proofs.Provided.{provided_cases, provided_fits}
 use native.Mathlib.Decide.{dec_le}
-use Rattle.search.proofs.Relations.{meet_known, meet_nothing, split_nothing}
+use Rattle.kinds.proofs.Relations.{meet_known, meet_nothing, split_nothing}
 
 range_some : (x : Range) → Inhabited (range_holds x)
 range_some x = (x.lo, (omega arith, x.ordered))

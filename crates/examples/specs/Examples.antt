@@ -49,30 +49,30 @@ two_rules = record { row = record { lo = 20; hi = 30 }; outcome = 1 } ∷ (recor
 abbrev pub range_rows : RangeRow → ℕ → Type 0
 range_rows = row_holds range_holds (λ (w : RangeRow). range_of w.lo w.hi)
 
--- the shape after attach at 0 (0, 1), attach at 1 (0, 1) and branch at firewall 0 (2)
+-- two firewalls in a row, each joined by 0 above and by 1 below, and a branch of the first by interface 2
 abbrev pub two_branches : Shape
 two_branches = branched (attached (attached bare 0 0 1) 1 0 1) 0 2
 
--- the Long form's addresses, with 10.0.0.0/8 given to domain 1, below firewall 0
+-- the Long form's addresses; domain 1, below firewall 0, has the block 10.0.0.0/8
 abbrev pub one_block : Tree Prefix Range
 one_block = after {V = ℕ} {W = ℕ} (after {V = ℕ} {W = ℕ} (start (prefix 0 0 tt refl) (range 0 255 tt)) (Attach 0 0 1 Discard)) (Give 1 (prefix (ip 10 0 0 0) 8 tt refl))
 
 pub record Examples : Type 0 where
-  -- ranges 3-9 and 9-12 meet in 9-9
+  -- ranges that have one number in common
   pub touching : MeetIn range_holds (range 3 9 tt) (range 9 12 tt) (range 9 9 tt)
-  -- 3-9 and 10-12 share nothing
+  -- ranges side by side have none
   pub neighbours : MeetNowhere range_holds (range 3 9 tt) (range 10 12 tt)
-  -- the split of 5-6 by 3-9 is nothing
+  -- a range inside another is not split by it
   pub nested : SplitNowhere range_holds (range 5 6 tt) (range 3 9 tt)
-  -- 10.0.0.0/8 and 10.1.0.0/16 meet in 10.1.0.0/16
+  -- of two nested prefixes the longer is what they have in common
   pub longer : MeetIn prefix_holds (prefix (ip 10 0 0 0) 8 tt refl) (prefix (ip 10 1 0 0) 16 tt refl) (prefix (ip 10 1 0 0) 16 tt refl)
-  -- masks 5 and 6 meet in 4
+  -- masks that have bit 2 in common
   pub masks : MeetIn set_holds (mask 5 tt tt) (mask 6 tt tt) (mask 4 tt tt)
   -- the list accepts 30 at its first rule and discards 31 at its second
   pub accepted : Says range_rows two_rules 30 (Some (record { position = 0; outcome = 1 }))
   pub discarded : Says range_rows two_rules 31 (Some (record { position = 1; outcome = 0 }))
-  -- with 10.0.0.0/8 given to domain 1, 10.255.255.255 is of domain 1 and 11.0.0.0 of domain 0
+  -- the last address of a block, and the first one behind it
   pub inside_block : Of prefix_holds range_holds one_block (ip 10 255 255 255) 1
   pub outside_block : Of prefix_holds range_holds one_block (ip 11 0 0 0) 0
-  -- the route from 2 to 3 enters firewall 1 by 1, then firewall 0 by 1
+  -- up through one firewall and down through another, each entered by its interface 1
   pub across : Route two_branches 2 3 (record { firewall = 1; entered = 1; left = 0; reached = 1 } ∷ (record { firewall = 0; entered = 1; left = 2; reached = 3 } ∷ []))

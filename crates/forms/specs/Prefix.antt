@@ -1,10 +1,10 @@
--- Prefixes: the addresses with the same first bits.
+-- Prefixes: addresses that agree in their first bits.
 use Rattle.std.specs.Prelude.{◌≡◌, ℕ, ◌-◌, ◌/◌, ◌%◌, ◌^◌, ◌≤◌, Option}
 use Rattle.std.proofs.Math.Decide.{dec_le, ℕ_discrete}
 use Rattle.kinds.specs.Made.{provided, dec_both}
 use Rattle.forms.specs.declared.prefix.Prefix.{Prefix}
 
--- the addresses with the same first bits
+-- the addresses whose first bits are those of x
 abbrev pub prefix_holds : Prefix → ℕ → Type 0
 prefix_holds x v = v / 2 ^ (32 - x.length) ≡ x.address / 2 ^ (32 - x.length)
 

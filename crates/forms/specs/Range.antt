@@ -4,7 +4,7 @@ use Rattle.std.proofs.Math.Decide.{dec_le}
 use Rattle.kinds.specs.Made.{provided}
 use Rattle.forms.specs.declared.range.Range.{Range}
 
--- the numbers from lo to hi, both included
+-- lo, hi, and what lies between
 abbrev pub range_holds : Range → ℕ → Type 0
 range_holds x v = (x.lo ≤ v) × (v ≤ x.hi)
 

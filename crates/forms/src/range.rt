@@ -3,7 +3,7 @@ ghost use Rattle.std.specs.Prelude.{◌≤◌};
 
 pub mod field_kind;
 
-/// The numbers from `lo` to `hi`, both included.
+/// `lo`, `hi`, and the numbers between them.
 #[derive(Clone, Copy)]
 pub struct Range {
     lo: u32,

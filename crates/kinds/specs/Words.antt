@@ -28,7 +28,7 @@ pub record Common {V : Type 0} (p q m : V → Type 0) : Type 0 where
   pub right : Inside m q
   pub all : (v : V) → p v → q v → m v
 
--- a and b are p cut along q: disjoint, together exactly p, and just one of them shares a value with q
+-- a and b are p cut along q: disjoint, together exactly p, and one of them, not both, meets q
 pub record Parted {V : Type 0} (p q a b : V → Type 0) : Type 0 where
   pub first : Inside a p
   pub second : Inside b p

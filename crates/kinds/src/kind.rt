@@ -5,12 +5,12 @@ ghost use Rattle.kinds.specs.Related.{Related};
 
 use crate::relation::Relation;
 
-// A field kind, implemented by the type of its regions. A region holds at least one value, and
-// finitely many; a kind is known by nothing but which values its regions hold.
+// A field kind, implemented by the type of its regions. No region is empty, and each has finitely
+// many values; a kind is known by nothing but which values its regions hold.
 pub trait Kind: Copy {
     type Value: Copy;
 
-    // How a region lies in a table: plain data, from which the region is made again by reading.
+    // How a region lies in a table: plain data, which is read to have the region again.
     type Row: Copy;
 
     // The meaning: which values a region holds.
@@ -21,7 +21,7 @@ pub trait Kind: Copy {
 
     ghost region: { Self.Row → Option Self };
 
-    // Yes exactly when the region holds the value.
+    // Whether the region holds the value.
     fn has(self, value: Self::Value) -> bool
         ensures { Decides result (holds self value) };
 
@@ -29,8 +29,8 @@ pub trait Kind: Copy {
     fn meet(self, other: Self) -> Option<Self>
         ensures { MeetOf holds (holds self) (holds other) result };
 
-    // Cuts this region along the other; nothing exactly when they share no value or this one lies
-    // inside the other. Which part comes first is left open.
+    // Cuts this region along the other; nothing exactly when there is no common value, or no other
+    // one in this region. Which part comes first is left open.
     fn split(self, other: Self) -> Option<(Self, Self)>
         ensures { SplitOf holds (holds self) (holds other) result };
 

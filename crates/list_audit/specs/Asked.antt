@@ -3,8 +3,8 @@ use Rattle.std.specs.Prelude.{◌≡◌, ℕ, ◌≤◌, List, length, Some, Non
 use Rattle.search.specs.Answer.{Witness}
 use Rattle.search.specs.First.{First, Nowhere}
 use Rattle.search.specs.List.{row_holds}
-use Rattle.search.specs.Walk.{Hopeless}
-use Rattle.search.specs.declared.frames.Found.{Found}
+use Rattle.search.specs.Answer.{Hopeless}
+use Rattle.search.specs.declared.answer.Found.{Found}
 use Rattle.search.specs.declared.list.Entry.{Entry}
 use Rattle.search.specs.declared.list.Wish.{Wish}
 use Rattle.list_audit.specs.declared.audit.Mistake.{Mistake}

@@ -14,7 +14,7 @@ pub type PacketsRow = Pair<SetRow, Pair<PrefixRow, Pair<PrefixRow, Service>>>;
 // Source ports, destination ports and protocols.
 pub type Service = Pair<RangeRow, Pair<RangeRow, RangeRow>>;
 
-// A packet: interface, source, destination, source port, destination port, protocol.
+// A packet: its interface, both addresses, both ports (the source first each time) and its protocol.
 pub type Packet = Pair<u8, Pair<u32, Pair<u32, Pair<u32, Pair<u32, u32>>>>>;
 
 const TCP: u32 = 6;

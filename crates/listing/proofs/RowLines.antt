@@ -4,7 +4,7 @@ use Rattle.std.specs.List.{slice_get}
 use Rattle.std.specs.Option.{option_map}
 use Rattle.std.proofs.lemmas.Option.{slice_get-map}
 use Rattle.kinds.proofs.Provided.{none_some}
-use Rattle.checks.proofs.Mapped.{nth_unmap}
+use Rattle.search.proofs.Mapped.{nth_unmap}
 
 unmapped : {X Y : Type 0} (f : X → Y) (o : Option X) → None ≡ option_map f o → None ≡ o
 unmapped f None none = refl

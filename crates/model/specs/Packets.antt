@@ -55,6 +55,6 @@ module _ {A R V W : Type 0} (addr : A → V → Type 0) (rests : R → W → Typ
     pub destination : addr t.addresses p.destination
     pub rest : rests t.rests p.rest
 
-  -- no packet of the whole is unmatched
+  -- each packet of the whole is matched by some rule
   abbrev pub Complete : Tree A R → List (Rule A R) → Type 0
   Complete t rs = (p : Packet V W) → InWhole t p → Unmatched rs p → ⊥

@@ -98,7 +98,7 @@ abbrev pub tree_from : {A R V W : Type 0} → Tree A R → List (Recorded A R V 
 tree_from t [] = t
 tree_from t (e ∷ es) = tree_from (then_tree t e) es
 
--- the plain tree of a record: the wholes of its making, and each call from then on
+-- the plain tree of a record: made of the two wholes, changed by one call after the other
 abbrev pub plain : {A R V W : Type 0} → A → R → List (Recorded A R V W) → Tree A R
 plain a r es = tree_from (start a r) es
 

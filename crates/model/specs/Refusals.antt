@@ -93,12 +93,12 @@ FullOfDomains t = max_domains < suc (length t.shape.domains) + 1
 abbrev pub FullOfRules : {A R : Type 0} → Tree A R → Type 0
 FullOfRules t = max_rules < count_rules t.lists + 1
 
--- the two domains are equal or, for discard, share no firewall
+-- the property goes from a domain to itself, or is a discard between two that no firewall joins
 abbrev pub Misjoined : {A R : Type 0} → Shape → Property A R → Type 0
 Misjoined s p = (p.from ≡ p.to) ⊎ ((p.sort ≡ Discard) × (Neighbours s p.from p.to → ⊥))
 
 module _ {A R V W : Type 0} where
-  -- 2: a domain, firewall, position, block or property does not exist, or domain 0 is given a block
+  -- 2: a domain, firewall, block, property or position that is not there, or a block for domain 0
   abbrev pub NamesNoSuch : Tree A R → Call A R V W → Type 0
   NamesNoSuch t (Attach d i j w) = NoDomain t d
   NamesNoSuch t (Branch f i) = NoFirewall t f
@@ -112,7 +112,7 @@ module _ {A R V W : Type 0} where
   NamesNoSuch t (Ask p) = NoDomain t p.from ⊎ NoDomain t p.to
   NamesNoSuch t (Send h) = ⊥
 
-  -- 3: an interface is above 31, in use at that firewall, or equal to the other one of attach
+  -- 3: a number too high for an interface; or one that the firewall of a branch uses; or twice the same in an attach
   abbrev pub HasBadInterface : Tree A R → Call A R V W → Type 0
   HasBadInterface t (Attach d i j w) = (max_interfaces ≤ i) ⊎ ((max_interfaces ≤ j) ⊎ (i ≡ j))
   HasBadInterface t (Branch f i) = (max_interfaces ≤ i) ⊎ ((d : ℕ) × Joined t.shape f d i)

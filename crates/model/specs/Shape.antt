@@ -1,5 +1,5 @@
 -- The tree: which node hangs where, and the way from one domain to another.
--- Domain 0 is the rest of the internet. Every firewall hangs below one domain, every other domain below one firewall.
+-- Domain 0 is what lies outside. A firewall hangs below a domain, and each domain but 0 below a firewall.
 use Rattle.std.specs.Prelude.{◌≡◌, ℕ, suc, ◌<◌, ◌≤◌, ◌⊎◌, List, [], ◌∷◌, ◌++◌, map, length, Some, ◌≢◌}
 use Rattle.std.specs.List.{slice_get}
 use Rattle.model.specs.Limits.{max_interfaces}
@@ -50,7 +50,7 @@ firewalls_on = map (λ (h : Hop). h.firewall)
 abbrev pub domains_on : List Hop → List ℕ
 domains_on = map (λ (h : Hop). h.reached)
 
--- the route from u to v: the walk that enters no node twice
+-- the route from u to v: the walk that passes no domain and no firewall twice
 pub record Route (s : Shape) (u v : ℕ) (hs : List Hop) : Type 0 where
   pub walk : Walk s u hs v
   pub firewalls_once : Distinct (firewalls_on hs)
@@ -77,7 +77,7 @@ back u (h ∷ hs) = back h.reached hs ++ (record { firewall = h.firewall; entere
 abbrev pub bare : Shape
 bare = record { firewalls = []; domains = [] }
 
--- the next firewall below domain d by its upper interface i, and the next domain below that by j
+-- a further firewall, below domain d by its upper interface i, and a further domain below it by j
 abbrev pub attached : Shape → ℕ → ℕ → ℕ → Shape
 attached s d i j = record {
   firewalls = s.firewalls ++ (record { node = d; interface = i } ∷ []);

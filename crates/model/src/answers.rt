@@ -8,11 +8,11 @@ use crate::rules::Packet;
 // Why a call is refused, with the values that show it.
 #[derive(Clone, Copy)]
 pub enum Refusal<V, W> {
-    // A table or frame slice is too short.
+    // One of the five slices has too few rows.
     TooShort,
-    // A domain, firewall, position, block or property does not exist, or domain 0 is given a block.
+    // Something named is not there (a domain, firewall, block, property or position), or domain 0 is given a block.
     NoSuch,
-    // An interface is above 31, in use at that firewall, or named twice.
+    // A number too high for an interface, or one that the firewall uses already, or the same one twice.
     BadInterface,
     // There would be too many domains, blocks, properties or rules.
     Full,
@@ -22,7 +22,7 @@ pub enum Refusal<V, W> {
     Overlap {
         block: usize,
     },
-    // A property's two domains are equal or, for discard, share no firewall.
+    // A property from a domain to itself, or a discard between two that no firewall joins.
     Unjoined,
     // This address of the property's source is not of its first domain.
     SourceAstray {

@@ -43,7 +43,7 @@ none = 110 ∷ 111 ∷ 110 ∷ 101 ∷ []
 abbrev pub no : List ℕ
 no = 110 ∷ 111 ∷ []
 
--- interface, source, destination, source port, destination port, protocol
+-- the interface, both addresses, both ports (the source first each time) and the protocol
 abbrev pub packet_values : Packet ℕ LongRestValue → List Value
 packet_values k = Number k.interface ∷ Address k.source ∷ Address k.destination ∷ Number k.rest.left ∷ Number k.rest.right.left ∷ Number k.rest.right.right ∷ []
 

@@ -2,7 +2,7 @@
 use Rattle.std.proofs.Common.{◌≡◌, ℕ, zero, suc, ◌<◌, inl, inr, refl, List, [], ◌∷◌, ◌++◌, length, Some, None, sym, ap, subst, append_assoc, append-nil, arith, length-append}
 use native.Mathlib.Decide.{ℕ_discrete, dec_le}
 use Rattle.std.specs.List.{slice_get}
-use Rattle.kinds.specs.Makes.{none_some}
+use Rattle.kinds.proofs.Provided.{none_some}
 use Rattle.search.specs.First.{First, Before, Nowhere}
 use Rattle.model.specs.Shape.{Shape, Domain, Route, Sound}
 use Rattle.model.specs.Subtree.{Way}

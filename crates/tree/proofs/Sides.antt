@@ -4,7 +4,7 @@ use native.Mathlib.Decide.{ℕ_discrete}
 use Rattle.std.specs.Option.{option_eq}
 use Rattle.std.proofs.lemmas.Bool.{eqb-false}
 use Rattle.std.proofs.lemmas.Bool.Decides.{eqb_tells}
-use Rattle.kinds.specs.Makes.{none_some}
+use Rattle.kinds.proofs.Provided.{none_some}
 use Rattle.search.specs.First.{First, Before, Nowhere}
 use Rattle.model.specs.Shape.{Shape, Domain, Firewall, Joined, Sound}
 use Rattle.model.specs.Subtree.{self, Way, up, across, down}

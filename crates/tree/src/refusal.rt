@@ -8,7 +8,7 @@ use model::Refusal;
 pub enum TreeRefusal {
     // There is no such domain or firewall.
     NoSuch,
-    // An interface is above 31, in use at that firewall, or named twice.
+    // A number too high for an interface, or one that the firewall uses already, or the same one twice.
     BadInterface,
     // There are 64 domains.
     Full,

@@ -5,7 +5,7 @@ use Rattle.search.specs.First.{First, Nowhere}
 use Rattle.search.specs.declared.list.Entry.{Entry}
 use Rattle.model.specs.Tree.{Block}
 use Rattle.checks.specs.Rows.{block_entry}
-use Rattle.checks.proofs.Mapped.{first_unmap, nowhere_unmap}
+use Rattle.search.proofs.Mapped.{first_unmap, nowhere_unmap}
 use Rattle.verdicts.specs.Overlap.{Shares, RowShares, OverlapFound}
 
 module _ {A V X : Type 0} (addr : A → V → Type 0) (pa : A → X) (ra : X → Option A) (reads : (x : A) → ra (pa x) ≡ Some x) (x : A) where

@@ -1,4 +1,4 @@
-// Two kinds side by side are again a kind.
+// A pair of kinds is a kind.
 ghost use Rattle.std.specs.Prelude.{◌≡◌};
 ghost use Rattle.kinds.specs.Words.{CommonAround};
 ghost use Rattle.kinds.specs.Pair.{both, pair_holds};
