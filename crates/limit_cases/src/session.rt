@@ -164,11 +164,11 @@ impl<A: Kind + Numbered, R: Kind + Numbered> Session<A, R> {
     fn write_junk(&mut self, region: A, rest: R) {
         let row = whole_packets(region, rest).row();
         for frame in self.stores.packet_frames.iter_mut() {
-            *frame = Frame { row, position: 77 };
+            *frame = Frame::filled(row);
         }
         let row = region.row();
         for frame in self.stores.address_frames.iter_mut() {
-            *frame = Frame { row, position: 78 };
+            *frame = Frame::filled(row);
         }
     }
 

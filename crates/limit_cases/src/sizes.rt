@@ -21,9 +21,9 @@ const _: () = prove!(size_of::<BlockRow<PrefixRow>>() == 12);
 
 const _: () = prove!(size_of::<PropertyRow<PrefixRow, LongRow>>() == 64);
 
-const _: () = prove!(size_of::<Frame<PacketRow<PrefixRow, LongRow>>>() == 56);
+const _: () = prove!(size_of::<Frame<PacketRow<PrefixRow, LongRow>>>() == 132);
 
-const _: () = prove!(size_of::<Frame<PrefixRow>>() == 16);
+const _: () = prove!(size_of::<Frame<PrefixRow>>() == 24);
 
 const _: () = prove!(size_of::<RuleRow<RangeRow, FlatRow>>() == 36);
 
@@ -31,6 +31,6 @@ const _: () = prove!(size_of::<BlockRow<RangeRow>>() == 12);
 
 const _: () = prove!(size_of::<PropertyRow<RangeRow, FlatRow>>() == 56);
 
-const _: () = prove!(size_of::<Frame<PacketRow<RangeRow, FlatRow>>>() == 40);
+const _: () = prove!(size_of::<Frame<PacketRow<RangeRow, FlatRow>>>() == 96);
 
-const _: () = prove!(size_of::<Frame<RangeRow>>() == 16);
+const _: () = prove!(size_of::<Frame<RangeRow>>() == 24);

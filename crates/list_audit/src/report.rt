@@ -62,10 +62,7 @@ pub(crate) fn report(rt: &impl Print) -> anyhow::Result<()> {
     let rules = office_rules();
     let read = read_all::<Packets>(&rules)?;
     let mut tally = Tally::default();
-    let mut frames = [Frame {
-        row: complete().packets,
-        position: 0,
-    }; FRAMES];
+    let mut frames = [Frame::filled(complete().packets); FRAMES];
     ask_all(rt, &rules, &[complete()], &mut frames, &mut tally)?;
     ask_all(rt, &rules, &street_questions(), &mut frames, &mut tally)?;
     ask_all(rt, &rules, &house_questions(), &mut frames, &mut tally)?;

@@ -72,15 +72,12 @@ pub(crate) fn lengthen_all<A: Kind, R: Kind>(
     lengthen(
         &mut stores.packet_frames,
         lent.packet_frames,
-        Frame { row, position: 0 },
+        Frame::filled(row),
     )?;
     lengthen(
         &mut stores.address_frames,
         lent.address_frames,
-        Frame {
-            row: address,
-            position: 0,
-        },
+        Frame::filled(address),
     )
 }
 

@@ -133,10 +133,7 @@ fn ask<K: Judged>(
 ) -> Result<(), AllocError> {
     let row = K::draw(random, Place::Target);
     let wish = draw_wish(random);
-    let junk = Frame {
-        row: K::draw(random, Place::Entry),
-        position: 7,
-    };
+    let junk = Frame::filled(K::draw(random, Place::Entry));
     tally.questions = tally.questions.saturating_add(1);
     let Some(target) = K::read(row) else {
         tally.hold(false);

@@ -41,11 +41,8 @@ fn junk_property<A: Kind, R: Kind>(
 }
 
 // A frame with a row that means nothing to the call.
-fn junk_frame<T>(random: &mut Random, row: T) -> Frame<T> {
-    Frame {
-        row,
-        position: random.below(200),
-    }
+fn junk_frame<T: Copy>(row: T) -> Frame<T> {
+    Frame::filled(row)
 }
 
 // The first rows of these.
