@@ -1,9 +1,7 @@
 -- An edit of one firewall's list: that its answer is right, and what is pictured after it.
 use Rattle.std.proofs.Common.{◌≡◌, ℕ, zero, suc, ◌+◌, ◌-◌, ◌<◌, ◌≤◌, Bool, cond, ◌⊎◌, List, [], map, length, take, drop, set, Some, None, Ok, Err, Decides, Option, Result, unwrap_or, sym, refl, ap, ◌∙◌, subst, subst₂, inl, inr, add-one, arith, length-take}
 use native.Mathlib.Decide.{dec_lt}
-use lib.ListN.{length-map}
 use Rattle.std.specs.List.{slice_get, insert, remove}
-use Rattle.std.proofs.lemmas.List.Edits.{length-insert}
 use Rattle.kinds.specs.declared.kind.Kind.{Ghosts}
 use Rattle.kinds.specs.declared.pair.Pair.{Pair}
 use Rattle.kinds.specs.declared.set.SetRow.{SetRow}
@@ -11,7 +9,7 @@ use Rattle.search.specs.declared.list.Entry.{Entry}
 use Rattle.search.proofs.Positions.{nth_set_same}
 use Rattle.model.specs.Packets.{InWhole, Unmatched, Complete}
 use Rattle.model.specs.Record.{Right, Said}
-use Rattle.model.specs.Limits.{max_list, max_rules, max_properties, min_packet_frames}
+use Rattle.model.specs.Limits.{max_list, max_rules, max_properties}
 use Rattle.model.specs.Refusals.{BreaksOne, WouldBreak, LeavesUnmatched, RuleInside, IsTooShort, NoFirewall, given, offered}
 use Rattle.model.specs.Shape.{Shape, Firewall}
 use Rattle.model.specs.Tree.{Tree, rules_of, with_rules, with_lists, after}
@@ -42,10 +40,10 @@ use Rattle.state.proofs.Tries.{reached_grown, reached_guarded, tried_refused}
 use Rattle.edits.specs.Edits.{Opened, Stands, Room, There, list_length, KeptJudged, EditJudged, NoneBroken}
 
 -- what was seen of a complete list, and then of what it breaks
-pub then_kept : {A R V W B : Type 0} (addr : A → V → Type 0) (rests : R → W → Type 0) (t : Tree A R) (rs : List (Rule A R)) (frames f : ℕ) → Complete {V = V} {W = W} addr rests t rs
-    → (r : Result B (Refusal V W)) → KeptJudged addr rests t rs frames f r → EditJudged addr rests t rs frames f r
-then_kept addr rests t rs frames f all (Ok x) kept = (all, kept)
-then_kept addr rests t rs frames f all (Err q) found = elim found [ inl short ↦ inl short | inr broken ↦ inr (inr (all, broken)) ]
+pub then_kept : {A R V W B : Type 0} (addr : A → V → Type 0) (rests : R → W → Type 0) (t : Tree A R) (rs : List (Rule A R)) (f : ℕ) → Complete {V = V} {W = W} addr rests t rs
+    → (r : Result B (Refusal V W)) → KeptJudged addr rests t rs f r → EditJudged addr rests t rs f r
+then_kept addr rests t rs f all (Ok x) kept = (all, kept)
+then_kept addr rests t rs f all (Err q) broken = inr (all, broken)
 
 module _ {A R V W : Type 0} (addr : A → V → Type 0) (rests : R → W → Type 0) (t : Tree A R) (c : Call A R V W) (l : Lent) where
   -- where no refusal with a number below n applies, no number below n has a cause
@@ -65,20 +63,17 @@ module _ {A R V W : Type 0} (addr : A → V → Type 0) (rests : R → W → Typ
   under n all (suc (suc (suc (suc (suc (suc (suc (suc (suc (suc (suc (suc zero)))))))))))) less x = all (Breaks x.0 x.1 x.2) less x.3
   under n all (suc (suc (suc (suc (suc (suc (suc (suc (suc (suc (suc (suc (suc k))))))))))))) less x = x
 
-  -- the call gives firewall f the list rs, which was searched with frames enough
-  module _ (f : ℕ) (rs : List (Rule A R)) (frames : ℕ) (enough : length rs < frames) (said : Said addr rests t c Done)
+  -- the call gives firewall f the list rs
+  module _ (f : ℕ) (rs : List (Rule A R)) (said : Said addr rests t c Done)
       (gives : (n g : ℕ) (k : Packet V W) → WouldBreak addr rests t c n g k → BreaksOne addr rests (with_rules t f rs) n g k)
       (takes : (n : ℕ) (k : Packet V W) → BreaksOne addr rests (with_rules t f rs) n f k → WouldBreak addr rests t c n f k) where
     -- a property that breaks is not among none
-    unbroken : NoneBroken {V = V} {W = W} addr rests t rs frames f → Cause addr rests t c l 12 → ⊥
+    unbroken : NoneBroken {V = V} {W = W} addr rests t rs f → Cause addr rests t c l 12 → ⊥
     unbroken free (n, g, k, b) = let (p, first, breaks) = gives n g k b in free n p first.here first.fit
 
-    pub kept_right : {B : Type 0} → Below addr rests t c l 12 → (r : Result B (Refusal V W)) → KeptJudged addr rests t rs frames f r → Right addr rests t c l (answered (λ x. Done) r)
+    pub kept_right : {B : Type 0} → Below addr rests t c l 12 → (r : Result B (Refusal V W)) → KeptJudged addr rests t rs f r → Right addr rests t c l (answered (λ x. Done) r)
     kept_right below (Ok x) free = (none addr rests t c l (more addr rests t c l 12 below (unbroken free)), said)
-    kept_right below (Err q) found = elim found [
-      | inl (is, short) ↦ absurd (omega arith)
-      | inr (n, k, is, breaks) ↦ subst (λ e. Right addr rests t c l (Refused e)) (sym is) (refuse addr rests t c l (Breaks n f k) below (takes n k breaks))
-    ]
+    kept_right below (Err q) (n, k, is, breaks) = subst (λ e. Right addr rests t c l (Refused e)) (sym is) (refuse addr rests t c l (Breaks n f k) below (takes n k breaks))
 
     -- the call is one that can leave a packet unmatched, and does not move addresses
     module _ (there : f < length t.lists) (loses : (k : Packet V W) → LeavesUnmatched addr rests t c k → InWhole addr rests t k × Unmatched addr rests (rules_of (with_rules t f rs) f) k)
@@ -92,13 +87,12 @@ module _ {A R V W : Type 0} (addr : A → V → Type 0) (rests : R → W → Typ
           more addr rests t c l 11 (more addr rests t c l 10 below (λ x.
           let (k, leaves) = x in let (inside, loose) = loses k leaves in all k inside (subst (λ ls. Unmatched addr rests ls k) rules_there loose))) still
 
-      pub edit_right : {B : Type 0} → Below addr rests t c l 10 → (r : Result B (Refusal V W)) → EditJudged addr rests t rs frames f r → Right addr rests t c l (answered (λ x. Done) r)
+      pub edit_right : {B : Type 0} → Below addr rests t c l 10 → (r : Result B (Refusal V W)) → EditJudged addr rests t rs f r → Right addr rests t c l (answered (λ x. Done) r)
       edit_right {B} below (Ok x) (all, free) = kept_right {B = B} (below_twelve below all) (Ok x) free
       edit_right {B} below (Err q) found = elim found [
-        | inl (is, short) ↦ absurd (omega arith)
-        | inr (inl (k, is, (inside, loose))) ↦
+        | inl (k, is, (inside, loose)) ↦
             subst (λ e. Right addr rests t c l (Refused e)) (sym is) (refuse addr rests t c l (LeftUnmatched k) below (lost k (inside, subst (λ ls. Unmatched addr rests ls k) (sym rules_there) loose)))
-        | inr (inr (all, broken)) ↦ kept_right {B = B} (below_twelve below all) (Err q) (inr broken)
+        | inr (all, broken) ↦ kept_right {B = B} (below_twelve below all) (Err q) broken
       ]
 
   -- a call that gives no block and offers no property passes 6 to 9
@@ -263,7 +257,6 @@ pub record RowsWithin {A R : Type 0} (g : State A R) (l : Lent) (f : ℕ) : Type
   pub used : rule_count g ≤ max_rules
   pub rows : max_rules ≤ l.rules
   pub properties : max_properties ≤ l.properties
-  pub frames : min_packet_frames ≤ l.packet_frames
 
 pub rows_within : {A R : Type 0} (g : State A R) (l : Lent) → (IsTooShort l → ⊥) → (f : ℕ) → RowsWithin g l f
 rows_within g l long f = record {
@@ -272,8 +265,11 @@ rows_within g l long f = record {
   used = sum_max g.lists;
   rows = (lent_enough l long).rules;
   properties = (lent_enough l long).properties;
-  frames = (lent_enough l long).packet_frames;
 }
+
+-- a list that is not too long has fewer rows than frames are lent
+pub frames_enough : {T : Type 0} (l : Lent) → (IsTooShort l → ⊥) → (n : ℕ) → n ≤ max_list → (rows : List T) → length (take n rows) < l.packet_frames
+frames_enough l long n few rows = let enough = lent_enough l long in let size = length-take n rows in omega arith
 
 -- a position in the list of f is a used row of a table that is long enough, and so is one to put a rule at, where there is room
 pub row_there : {A R : Type 0} (g : State A R) (l : Lent) (f p : ℕ) → There g l f (list_length g f) p → (used start : ℕ) → used ≡ rule_count g → start ≡ start_of (lengths_of g.lists) f
@@ -333,8 +329,8 @@ module _ {A R V W X Y : Type 0} (ka : Ghosts A V X) (kr : Ghosts R W Y) (g : Sta
       properties = ap (λ n. take n properties) same.property_count ∙ pic.properties;
     }
 
-    -- place: the rows after it, in a table that is long enough; the list as it would stand is searched with so many frames
-    module _ (f p : ℕ) (rule : Rule A R) (there : There g l f (list_length g f + 1) p) (room : Room g f) (long : l.rules ≡ length rules) (frames : ℕ) (lent : l.packet_frames ≡ frames)
+    -- place: the rows after it, in a table that is long enough
+    module _ (f p : ℕ) (rule : Rule A R) (there : There g l f (list_length g f + 1) p) (room : Room g f) (long : l.rules ≡ length rules)
         (is : rules-after ≡ row_in (rule_count g) (row_at g f p) (rule_entry ka.plain kr.plain rule) rules)
         (passes : (s : Stored X Y) (t : Tree A R) → Reached {V = V} {W = W} ka.holds kr.holds t → Pictures ka.plain kr.plain g s t → Passed ka.holds kr.holds t (Place f p rule) l 12) where
       placed_rows : take (rule_count g + 1) rules-after ≡ insert (take (rule_count g) rules) (row_at g f p) (rule_entry ka.plain kr.plain rule)
@@ -347,7 +343,7 @@ module _ {A R V W X Y : Type 0} (ka : Ghosts A V X) (kr : Ghosts R W Y) (g : Sta
       abbrev PlaceJudged : {B : Type 0} → Result B (Refusal V W) → Type 0
       PlaceJudged r =
           (t : Tree A R) (rs : List (Rule A R)) → Stands {V = V} {W = W} ka kr g properties f t → take (list_length g f + 1) (drop (start_of (lengths_of g.lists) f) rules-after) ≡ map (rule_entry ka.plain kr.plain) rs
-          → KeptJudged ka.holds kr.holds t rs frames f r
+          → KeptJudged ka.holds kr.holds t rs f r
 
       module _ (t : Tree A R) (reached : Reached {V = V} {W = W} ka.holds kr.holds t) (pic : Pictures ka.plain kr.plain g (stored rules blocks properties) t) where
         placed_at : p ≤ length (rules_of t f)
@@ -356,13 +352,9 @@ module _ {A R V W X Y : Type 0} (ka : Ghosts A V X) (kr : Ghosts R W Y) (g : Sta
         place_right : {B : Type 0} (r : Result B (Refusal V W)) → PlaceJudged r → Right ka.holds kr.holds t (Place f p rule) l (answered (λ x. Done) r)
         place_right r judged =
             let s = stored rules blocks properties in
-            let fits = rows_within g l there.long f in
-            let free = room.list in
-            let size = laid_length pic.lists f in
-            let new = length-insert (rules_of t f) p rule placed_at in
             let inside = in_lists s t reached pic f there.firewall in
             let list = placed_list pic.lists f inside rule p rules-after placed_at placed_rows in
-            kept_right ka.holds kr.holds t (Place f p rule) l f (insert (rules_of t f) p rule) frames (omega arith) refl (λ n g k b. b) (λ n k b. b)
+            kept_right ka.holds kr.holds t (Place f p rule) l f (insert (rules_of t f) p rule) refl (λ n g k b. b) (λ n k b. b)
             (under ka.holds kr.holds t (Place f p rule) l 12 (passes s t reached pic)) r
             (judged t (insert (rules_of t f) p rule) (stands s t reached pic f there.firewall) (ap (λ n. take n (drop (start_of (lengths_of g.lists) f) rules-after)) (add-one (list_length g f)) ∙ list))
 
@@ -400,12 +392,12 @@ module _ {A R V W X Y : Type 0} (ka : Ghosts A V X) (kr : Ghosts R W Y) (g : Sta
           (λ t reached pic. place_right t reached pic {B = B} (Err q) judged)
 
     -- alter and lift: rows of this size are searched, where the list of f would stand
-    module _ (c : Call A R V W) (f size frames : ℕ) (long : IsTooShort l → ⊥) (there : Firewall (shape_of g.tree) f) (few : size ≤ max_list) (lent : l.packet_frames ≡ frames)
+    module _ (c : Call A R V W) (f size : ℕ) (there : Firewall (shape_of g.tree) f)
         (passes : (s : Stored X Y) (t : Tree A R) → Reached {V = V} {W = W} ka.holds kr.holds t → Pictures ka.plain kr.plain g s t → Passed ka.holds kr.holds t c l 10) where
       abbrev ThinJudged : {B : Type 0} → Result B (Refusal V W) → Type 0
       ThinJudged r =
           (t : Tree A R) (rs : List (Rule A R)) → Stands {V = V} {W = W} ka kr g properties f t → take size (drop (start_of (lengths_of g.lists) f) rules-after) ≡ map (rule_entry ka.plain kr.plain) rs
-          → EditJudged ka.holds kr.holds t rs frames f r
+          → EditJudged ka.holds kr.holds t rs f r
 
       thin_right : (t : Tree A R) → Reached {V = V} {W = W} ka.holds kr.holds t → Pictures ka.plain kr.plain g (stored rules blocks properties) t → (rs : List (Rule A R))
           → take size (drop (start_of (lengths_of g.lists) f) rules-after) ≡ map (rule_entry ka.plain kr.plain) rs
@@ -418,19 +410,17 @@ module _ {A R V W X Y : Type 0} (ka : Ghosts A V X) (kr : Ghosts R W Y) (g : Sta
           → {B : Type 0} (r : Result B (Refusal V W)) → ThinJudged r → Right ka.holds kr.holds t c l (answered (λ x. Done) r)
       thin_right t reached pic rs list said gives takes loses lost still r judged =
           let s = stored rules blocks properties in
-          let fits = rows_within g l long f in
-          let is-long = sym (length-map rs (rule_entry ka.plain kr.plain)) ∙ ap length (sym list) ∙ length-take size (drop (start_of (lengths_of g.lists) f) rules-after) in
-          edit_right ka.holds kr.holds t c l f rs frames (omega arith) said gives takes (in_lists s t reached pic f there) loses lost still (under ka.holds kr.holds t c l 10 (passes s t reached pic)) r
+          edit_right ka.holds kr.holds t c l f rs said gives takes (in_lists s t reached pic f there) loses lost still (under ka.holds kr.holds t c l 10 (passes s t reached pic)) r
           (judged t rs (stands s t reached pic f there) list)
 
     -- alter
-    module _ (f p : ℕ) (rule : Rule A R) (there : There g l f (list_length g f) p) (long : l.rules ≡ length rules) (frames : ℕ) (lent : l.packet_frames ≡ frames)
+    module _ (f p : ℕ) (rule : Rule A R) (there : There g l f (list_length g f) p) (long : l.rules ≡ length rules)
         (is : rules-after ≡ set rules (row_at g f p) (rule_entry ka.plain kr.plain rule))
         (passes : (s : Stored X Y) (t : Tree A R) → Reached {V = V} {W = W} ka.holds kr.holds t → Pictures ka.plain kr.plain g s t → Passed ka.holds kr.holds t (Alter f p rule) l 10) where
       abbrev AlterJudged : {B : Type 0} → Result B (Refusal V W) → Type 0
       AlterJudged r =
           (t : Tree A R) (rs : List (Rule A R)) → Stands {V = V} {W = W} ka kr g properties f t → take (list_length g f) (drop (start_of (lengths_of g.lists) f) rules-after) ≡ map (rule_entry ka.plain kr.plain) rs
-          → EditJudged ka.holds kr.holds t rs frames f r
+          → EditJudged ka.holds kr.holds t rs f r
 
       module _ (t : Tree A R) (reached : Reached {V = V} {W = W} ka.holds kr.holds t) (pic : Pictures ka.plain kr.plain g (stored rules blocks properties) t) where
         altered_at : p < length (rules_of t f)
@@ -439,7 +429,7 @@ module _ {A R V W X Y : Type 0} (ka : Ghosts A V X) (kr : Ghosts R W Y) (g : Sta
         alter_right : {B : Type 0} (r : Result B (Refusal V W)) → AlterJudged r → Right ka.holds kr.holds t (Alter f p rule) l (answered (λ x. Done) r)
         alter_right r judged =
             let inside = in_lists (stored rules blocks properties) t reached pic f there.firewall in
-            thin_right (Alter f p rule) f (list_length g f) frames there.long there.firewall (length_max g.lists f) lent passes t reached pic (set (rules_of t f) p rule)
+            thin_right (Alter f p rule) f (list_length g f) there.firewall passes t reached pic (set (rules_of t f) p rule)
             (altered_list pic.lists f inside rule p rules-after altered_at is) refl (λ n g k b. b) (λ n k b. b) (λ k x. x) (λ k x. x) (λ x. x.2) r judged
 
         altered_pictured : Pictures ka.plain kr.plain g (stored rules-after blocks properties) (after {V = V} {W = W} t (Alter f p rule))
@@ -466,13 +456,13 @@ module _ {A R V W X Y : Type 0} (ka : Ghosts A V X) (kr : Ghosts R W Y) (g : Sta
           (λ t reached pic. alter_right t reached pic {B = B} (Err q) judged)
 
     -- lift
-    module _ (f p : ℕ) (there : There g l f (list_length g f) p) (long : l.rules ≡ length rules) (frames : ℕ) (lent : l.packet_frames ≡ frames)
+    module _ (f p : ℕ) (there : There g l f (list_length g f) p) (long : l.rules ≡ length rules)
         (is : rules-after ≡ row_out (rule_count g) (row_at g f p) rules)
         (passes : (s : Stored X Y) (t : Tree A R) → Reached {V = V} {W = W} ka.holds kr.holds t → Pictures ka.plain kr.plain g s t → Passed ka.holds kr.holds t (Lift f p) l 10) where
       abbrev LiftJudged : {B : Type 0} → Result B (Refusal V W) → Type 0
       LiftJudged r =
           (t : Tree A R) (rs : List (Rule A R)) → Stands {V = V} {W = W} ka kr g properties f t → take (list_length g f - 1) (drop (start_of (lengths_of g.lists) f) rules-after) ≡ map (rule_entry ka.plain kr.plain) rs
-          → EditJudged ka.holds kr.holds t rs frames f r
+          → EditJudged ka.holds kr.holds t rs f r
 
       lifted_rows : take (rule_count g - 1) rules-after ≡ remove (take (rule_count g) rules) (row_at g f p)
       lifted_rows =
@@ -487,8 +477,7 @@ module _ {A R V W X Y : Type 0} (ka : Ghosts A V X) (kr : Ghosts R W Y) (g : Sta
         lift_right : {B : Type 0} (r : Result B (Refusal V W)) → LiftJudged r → Right ka.holds kr.holds t (Lift f p) l (answered (λ x. Done) r)
         lift_right r judged =
             let inside = in_lists (stored rules blocks properties) t reached pic f there.firewall in
-            let few = length_max g.lists f in
-            thin_right (Lift f p) f (list_length g f - 1) frames there.long there.firewall (omega arith) lent passes t reached pic (remove (rules_of t f) p)
+            thin_right (Lift f p) f (list_length g f - 1) there.firewall passes t reached pic (remove (rules_of t f) p)
             (lifted_list pic.lists f inside p rules-after lifted_at lifted_rows) refl (λ n g k b. b) (λ n k b. b) (λ k x. x) (λ k x. x) (λ x. x.2) r judged
 
         lifted_pictured : (h : State A R) → Relisted g h → (done : Bool) → Decides done (0 < list_length g f)

@@ -1,5 +1,5 @@
 -- An edit of one firewall's list: what is checked before it is made, and of the list as it would stand.
-use Rattle.std.specs.Prelude.{◌≡◌, ℕ, ◌<◌, ◌≤◌, ◌⊎◌, List, map, length, take, IfOk, Some, Ok, Err, Result}
+use Rattle.std.specs.Prelude.{◌≡◌, ℕ, ◌<◌, ◌⊎◌, List, map, length, take, IfOk, Some, Ok, Err, Result}
 use Rattle.std.specs.List.{slice_get}
 use Rattle.kinds.specs.declared.kind.Kind.{Ghosts}
 use Rattle.search.specs.First.{Nowhere}
@@ -56,12 +56,8 @@ module _ {A R V W X Y : Type 0} (ka : Ghosts A V X) (kr : Ghosts R W Y) where
     pub properties : take g.property_count rows ≡ map (property_row ka.plain kr.plain) t.properties
     pub kept : (n : ℕ) (p : Property A R) → slice_get t.properties n ≡ Some p → Kept ka.holds kr.holds t p
 
--- a search of the list rs with so many frames
-module _ {A R V W : Type 0} (addr : A → V → Type 0) (rests : R → W → Type 0) (t : Tree A R) (rs : List (Rule A R)) (frames : ℕ) where
-  -- there are no more frames than rules
-  abbrev pub ShortShown : Refusal V W → Type 0
-  ShortShown q = (q ≡ TooShort) × (frames ≤ length rs)
-
+-- a search of the list rs
+module _ {A R V W : Type 0} (addr : A → V → Type 0) (rests : R → W → Type 0) (t : Tree A R) (rs : List (Rule A R)) where
   -- a packet of the whole that the list leaves unmatched
   abbrev pub UnmatchedShown : Refusal V W → Type 0
   UnmatchedShown q = (k : Packet V W) × (q ≡ LeftUnmatched k) × (InWhole addr rests t k × Unmatched addr rests rs k)
@@ -76,14 +72,14 @@ module _ {A R V W : Type 0} (addr : A → V → Type 0) (rests : R → W → Typ
   -- 10: the list is complete, or what is shown is not matched
   abbrev pub CompleteJudged : {B : Type 0} → Result B (Refusal V W) → Type 0
   CompleteJudged (Ok x) = Complete {V = V} {W = W} addr rests t rs
-  CompleteJudged (Err q) = ShortShown q ⊎ UnmatchedShown q
+  CompleteJudged (Err q) = UnmatchedShown q
 
   -- 12: no property is broken, or what is shown breaks the first that is
   abbrev pub KeptJudged : {B : Type 0} → ℕ → Result B (Refusal V W) → Type 0
   KeptJudged f (Ok x) = NoneBroken f
-  KeptJudged f (Err q) = ShortShown q ⊎ BreakShown f q
+  KeptJudged f (Err q) = BreakShown f q
 
   -- 10, and then 12
   abbrev pub EditJudged : {B : Type 0} → ℕ → Result B (Refusal V W) → Type 0
   EditJudged f (Ok x) = Complete {V = V} {W = W} addr rests t rs × NoneBroken f
-  EditJudged f (Err q) = ShortShown q ⊎ (UnmatchedShown q ⊎ (Complete {V = V} {W = W} addr rests t rs × BreakShown f q))
+  EditJudged f (Err q) = UnmatchedShown q ⊎ (Complete {V = V} {W = W} addr rests t rs × BreakShown f q)

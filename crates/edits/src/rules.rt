@@ -58,9 +58,10 @@ fn check_complete<A: Kind, R: Kind>(
     rests: R,
     frames: &mut [Frame<PacketRow<A::Row, R::Row>>],
 ) -> Result<(), Refusal<A::Value, R::Value>>
-    ensures { (t : Tree A R) (rs : List (RuleOf A R)) → t.addresses ≡ addresses → t.rests ≡ rests → RulesAre A.Kind R.Kind list.now rs → CompleteJudged A.Kind.holds R.Kind.holds t rs (length frames.old) result }
+    requires { length list.now < length frames.old }
+    ensures { (t : Tree A R) (rs : List (RuleOf A R)) → t.addresses ≡ addresses → t.rests ≡ rests → RulesAre A.Kind R.Kind list.now rs → CompleteJudged A.Kind.holds R.Kind.holds t rs result }
 {
-    match find_unmatched(list, addresses, rests, frames)? {
+    match find_unmatched(list, addresses, rests, frames) {
         Some(packet) => Err(Refusal::Unmatched { packet }),
         None => Ok(()),
     }
@@ -74,10 +75,11 @@ fn check_kept<A: Kind, R: Kind>(
     frames: &mut [Frame<PacketRow<A::Row, R::Row>>],
     firewall: usize,
 ) -> Result<(), Refusal<A::Value, R::Value>>
-    ensures { (t : Tree A R) (rs : List (RuleOf A R)) → Stands A.Kind R.Kind state.now properties.now firewall t → RulesAre A.Kind R.Kind list.now rs → KeptJudged A.Kind.holds R.Kind.holds t rs (length frames.old) firewall result }
+    requires { length list.now < length frames.old }
+    ensures { (t : Tree A R) (rs : List (RuleOf A R)) → Stands A.Kind R.Kind state.now properties.now firewall t → RulesAre A.Kind R.Kind list.now rs → KeptJudged A.Kind.holds R.Kind.holds t rs firewall result }
 {
     let standing = used_rows(properties, state.property_count);
-    match first_broken::<A, R>(&state.tree, standing, firewall, list, frames)? {
+    match first_broken::<A, R>(&state.tree, standing, firewall, list, frames) {
         Some(broken) => Err(Refusal::Breaks {
             property: broken.property,
             firewall,
@@ -95,7 +97,8 @@ fn check_edited<A: Kind, R: Kind>(
     frames: &mut [Frame<PacketRow<A::Row, R::Row>>],
     firewall: usize,
 ) -> Result<(), Refusal<A::Value, R::Value>>
-    ensures { (t : Tree A R) (rs : List (RuleOf A R)) → Stands A.Kind R.Kind state.now properties.now firewall t → RulesAre A.Kind R.Kind list.now rs → EditJudged A.Kind.holds R.Kind.holds t rs (length frames.old) firewall result }
+    requires { length list.now < length frames.old }
+    ensures { (t : Tree A R) (rs : List (RuleOf A R)) → Stands A.Kind R.Kind state.now properties.now firewall t → RulesAre A.Kind R.Kind list.now rs → EditJudged A.Kind.holds R.Kind.holds t rs firewall result }
 {
     check_complete(list, state.addresses, state.rests, frames)?;
     check_kept(state, list, properties, frames, firewall)

@@ -63,7 +63,7 @@ fn check_placed<A: Kind, R: Kind>(
 {
     let blocks = used_rows(blocks, used);
     let properties = used_rows(properties, standing);
-    match first_misplaced::<A, R>(blocks, properties, frames)? {
+    match first_misplaced::<A, R>(blocks, properties, frames) {
         Some(astray) => Err(Refusal::Misplaced {
             property: astray.property,
             address: astray.address,
@@ -99,8 +99,7 @@ pub fn give<A: Kind, R: Kind>(
             Ok(())
         }
         Err(refusal) => {
-            // It was just written; that `unwrap` may be called was tried, and not proved.
-            let _ = replace_row(blocks, used + 1, used, old);
+            replace_row(blocks, used + 1, used, old).unwrap();
             Err(refusal)
         }
     }

@@ -1,11 +1,9 @@
 // What the register answers, and what a guard writes down of each call.
 ghost use Rattle.std.specs.Prelude.{◌≡◌};
 ghost use Rattle.model.specs.Refusals.{number};
-ghost use Rattle.model.specs.declared.answers.Refusal.TheVariants.{TooShort as IsShort};
 
 use crate::calls::Call;
 use crate::rules::Packet;
-use search::TooShort;
 
 // Why a call is refused, with the values that show it.
 #[derive(Clone, Copy)]
@@ -70,15 +68,6 @@ impl<V, W> Refusal<V, W> {
             Refusal::Misplaced { .. } => 11,
             Refusal::Breaks { .. } => 12,
         }
-    }
-}
-
-// A search whose frames are too few is refused as slices that are too short.
-impl<V, W> From<TooShort> for Refusal<V, W> {
-    ghost from_gives = { λ _ refusal. refusal ≡ IsShort };
-
-    fn from(_short: TooShort) -> Refusal<V, W> {
-        Self::TooShort
     }
 }
 

@@ -1,8 +1,7 @@
 -- Stand and ask: an offered property, down the refusal table.
-use Rattle.std.proofs.Common.{◌≡◌, ℕ, ◌-◌, ◌≤◌, ◌⊎◌, List, map, length, take, Some, None, Ok, Option, sym, refl, ap, ◌∙◌, subst, subst₂, arith, MatchOption}
+use Rattle.std.proofs.Common.{◌≡◌, ℕ, ◌-◌, ◌⊎◌, List, map, take, Some, None, Option, sym, refl, ap, ◌∙◌, subst, subst₂, MatchOption}
 use native.Mathlib.Nat.{sub-zero}
 use Rattle.kinds.specs.declared.kind.Kind.{Ghosts}
-use Rattle.model.specs.Limits.{max_list}
 use Rattle.model.specs.Properties.{IsSourceAstray, IsDestinationAstray}
 use Rattle.model.specs.Record.{Right, then_tree}
 use Rattle.model.specs.Refusals.{Applies, IsTooShort, PropertyInside, AllInside, Overlaps, Misjoined, offered}
@@ -33,7 +32,6 @@ use Rattle.verdicts.specs.declared.route.Break.{Break}
 use Rattle.state.specs.Picture.{Pictures}
 use Rattle.state.specs.Rows.{Stored}
 use Rattle.state.specs.declared.state.State.{State}
-use Rattle.state.proofs.Lent.{lent_enough}
 use Rattle.state.proofs.Tries.{owned_apart}
 use Rattle.state.proofs.Order.{Below, below_one, more, none, refuse}
 use Rattle.offers.specs.Offers.{Fits, Misfits}
@@ -55,10 +53,6 @@ module _ {A R V W X Y : Type 0} (ka : Ghosts A V X) (kr : Ghosts R W Y) (g : Sta
 
   pub blocks_are : Grown ka.holds kr.holds t → BlocksAre ka (take g.block_count s.blocks) t
   blocks_are grown = record { same = pic.blocks; owned = owned_apart ka.holds kr.holds t grown }
-
-  -- the search of the blocks has frames enough
-  pub frames_enough : (l : Lent) → (IsTooShort l → ⊥) → (n : ℕ) → l.address_frames ≡ n → n ≤ length t.blocks → ⊥
-  frames_enough l long n is le = let enough = lent_enough l long in let few = g.blocks in let count = pic.block_count in omega arith
 
   module _ (p : Property A R) (c : Call A R V W) (l : Lent) where
     -- 2, which stand and ask have alike
@@ -122,11 +116,7 @@ module _ {A R V W X Y : Type 0} (ka : Ghosts A V X) (kr : Ghosts R W Y) (g : Sta
           let up = more ka.holds kr.holds t ask l in
           none ka.holds kr.holds t ask l (up 12 (up 11 (up 10 (fits_below p ask l ask_five refl (λ b x. x) (λ h. h) (λ h. h) fits) (λ x. x.1)) (λ x. x.2)) (λ x. x.3))
 
-      pub ask_turns : Fits ka.holds kr.holds t p → (n : ℕ) (found : Option (Break V W)) → AskedFound ka.holds kr.holds t p n (Ok found)
+      pub ask_turns : Fits ka.holds kr.holds t p → (found : Option (Break V W)) → AskedFound ka.holds kr.holds t p found
           → Right ka.holds kr.holds t ask l (asked_as found) × Pictures ka.plain kr.plain g s (then_tree t (record { call = ask; lent = l; answer = asked_as found }))
-      ask_turns fits n None kept = ((ask_none fits, kept), pic)
-      ask_turns fits n (Some b) breaks = ((ask_none fits, breaks), pic)
-
-  -- a search that had too few frames did not have the frames lent
-  pub break_frames : (l : Lent) → (IsTooShort l → ⊥) → (n : ℕ) → l.packet_frames ≡ n → n ≤ max_list → ⊥
-  break_frames l long n is le = let enough = lent_enough l long in omega arith
+      ask_turns fits None kept = ((ask_none fits, kept), pic)
+      ask_turns fits (Some b) breaks = ((ask_none fits, breaks), pic)

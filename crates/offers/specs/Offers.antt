@@ -1,6 +1,5 @@
 -- A property that is offered, by stand or by ask.
-use Rattle.std.specs.Prelude.{◌≡◌, ℕ, ◌≤◌, ◌⊎◌, length, Ok, Err, Result}
-use Rattle.model.specs.Limits.{max_list}
+use Rattle.std.specs.Prelude.{◌≡◌, ℕ, Ok, Err, Result}
 use Rattle.model.specs.Properties.{IsSourceAstray, IsDestinationAstray, Kept, BreaksFirst}
 use Rattle.model.specs.Refusals.{PropertyInside, Misjoined}
 use Rattle.model.specs.Tree.{Tree}
@@ -10,14 +9,14 @@ use Rattle.model.specs.declared.rules.Packet.{Packet}
 use Rattle.model.specs.declared.rules.Property.{Property}
 
 module _ {A R V W : Type 0} (addr : A → V → Type 0) (rests : R → W → Type 0) where
-  -- what the search of the blocks says of an offered property; too short only where there are no more frames than blocks
-  abbrev pub SourceChecked : Tree A R → Property A R → ℕ → Result (Unit {0}) (Refusal V W) → Type 0
-  SourceChecked t p frames (Ok x) = (a : V) → IsSourceAstray addr rests t p a → ⊥
-  SourceChecked t p frames (Err q) = (frames ≤ length t.blocks) ⊎ ((a : V) × (q ≡ SourceAstray a) × IsSourceAstray addr rests t p a)
+  -- what the search of the blocks says of an offered property
+  abbrev pub SourceChecked : Tree A R → Property A R → Result (Unit {0}) (Refusal V W) → Type 0
+  SourceChecked t p (Ok x) = (a : V) → IsSourceAstray addr rests t p a → ⊥
+  SourceChecked t p (Err q) = (a : V) × (q ≡ SourceAstray a) × IsSourceAstray addr rests t p a
 
-  abbrev pub DestinationChecked : Tree A R → Property A R → ℕ → Result (Unit {0}) (Refusal V W) → Type 0
-  DestinationChecked t p frames (Ok x) = (a : V) → IsDestinationAstray addr rests t p a → ⊥
-  DestinationChecked t p frames (Err q) = (frames ≤ length t.blocks) ⊎ ((a : V) × (q ≡ DestinationAstray a) × IsDestinationAstray addr rests t p a)
+  abbrev pub DestinationChecked : Tree A R → Property A R → Result (Unit {0}) (Refusal V W) → Type 0
+  DestinationChecked t p (Ok x) = (a : V) → IsDestinationAstray addr rests t p a → ⊥
+  DestinationChecked t p (Err q) = (a : V) × (q ≡ DestinationAstray a) × IsDestinationAstray addr rests t p a
 
   -- the property lies in the wholes, is joined, and has its addresses where they belong
   pub record Fits (t : Tree A R) (p : Property A R) : Type 0 where
@@ -33,11 +32,11 @@ module _ {A R V W : Type 0} (addr : A → V → Type 0) (rests : R → W → Typ
     source : (a : V) → q ≡ SourceAstray a → PropertyInside addr rests t p → (Misjoined t.shape p → ⊥) → IsSourceAstray addr rests t p a → Misfits t p q
     destination : (a : V) → q ≡ DestinationAstray a → PropertyInside addr rests t p → (Misjoined t.shape p → ⊥) → ((b : V) → IsSourceAstray addr rests t p b → ⊥) → IsDestinationAstray addr rests t p a → Misfits t p q
 
-  abbrev pub OfferChecked : Tree A R → Property A R → ℕ → Result (Unit {0}) (Refusal V W) → Type 0
-  OfferChecked t p frames (Ok x) = Fits t p
-  OfferChecked t p frames (Err q) = (frames ≤ length t.blocks) ⊎ Misfits t p q
+  abbrev pub OfferChecked : Tree A R → Property A R → Result (Unit {0}) (Refusal V W) → Type 0
+  OfferChecked t p (Ok x) = Fits t p
+  OfferChecked t p (Err q) = Misfits t p q
 
-  -- what the search of the lists says of it, with the number that it would have; too short only where a list may be as long as there are frames
-  abbrev pub KeptChecked : Tree A R → Property A R → ℕ → ℕ → Result (Unit {0}) (Refusal V W) → Type 0
-  KeptChecked t p n frames (Ok x) = Kept addr rests t p
-  KeptChecked t p n frames (Err q) = (frames ≤ max_list) ⊎ ((f : ℕ) × (k : Packet V W) × (q ≡ Breaks n f k) × BreaksFirst addr rests t p f k)
+  -- what the search of the lists says of it, with the number that it would have
+  abbrev pub KeptChecked : Tree A R → Property A R → ℕ → Result (Unit {0}) (Refusal V W) → Type 0
+  KeptChecked t p n (Ok x) = Kept addr rests t p
+  KeptChecked t p n (Err q) = (f : ℕ) × (k : Packet V W) × (q ≡ Breaks n f k) × BreaksFirst addr rests t p f k

@@ -1,8 +1,9 @@
 // What is asked of the state.
-ghost use Rattle.std.specs.Prelude.{◌≡◌, length};
+ghost use Rattle.std.specs.Prelude.{◌≡◌, ◌<◌, length};
 ghost use Rattle.checks.specs.Rows.{rule_entry};
 ghost use Rattle.lists.specs.Layout.{Laid};
 ghost use Rattle.lists.specs.Lengths.{lengths_of};
+ghost use Rattle.model.specs.Limits.{max_list};
 ghost use Rattle.model.specs.Tree.{Tree};
 ghost use Rattle.tree.specs.Table.{shape_of};
 ghost use Rattle.verdicts.specs.Asked.{AskedFound};
@@ -18,7 +19,7 @@ use crate::offers::{check_between, check_offer};
 use checks::{PacketRow, RuleRow};
 use kinds::Kind;
 use model::{Header, Property, Refusal};
-use search::{Frame, TooShort};
+use search::Frame;
 use state::{Memory, State};
 use tables::used_rows;
 use verdicts::{Break, Network, Stop};
@@ -44,8 +45,9 @@ pub(crate) fn first_break<A: Kind, R: Kind>(
     rules: &[RuleRow<A::Row, R::Row>],
     frames: &mut [Frame<PacketRow<A::Row, R::Row>>],
     property: Property<A, R>,
-) -> Result<Option<Break<A::Value, R::Value>>, TooShort>
-    ensures { (t : Tree A R) → shape_of state.now.tree ≡ t.shape → Laid (rule_entry A.Kind.plain R.Kind.plain) (lengths_of state.now.lists) rules.now t.lists → AskedFound A.Kind.holds R.Kind.holds t property (length frames.old) result }
+) -> Option<Break<A::Value, R::Value>>
+    requires { max_list < length frames.old }
+    ensures { (t : Tree A R) → shape_of state.now.tree ≡ t.shape → Laid (rule_entry A.Kind.plain R.Kind.plain) (lengths_of state.now.lists) rules.now t.lists → AskedFound A.Kind.holds R.Kind.holds t property result }
 {
     network(state, rules).first_break(property, frames)
 }
@@ -66,7 +68,7 @@ pub fn ask<A: Kind, R: Kind>(
     let packet_frames = &mut *memory.packet_frames;
     let address_frames = &mut *memory.address_frames;
     check_offer(state, blocks, address_frames, property)?;
-    Ok(first_break(state, rules, packet_frames, property)?)
+    Ok(first_break(state, rules, packet_frames, property))
 }
 
 // 5: every part of the packet is in its whole.

@@ -1,6 +1,7 @@
 // The checks of a property that is offered, by stand or by ask.
-ghost use Rattle.std.specs.Prelude.{◌≡◌, ◌⊎◌, map, length, take};
+ghost use Rattle.std.specs.Prelude.{◌≡◌, ◌<◌, ◌⊎◌, map, length, take};
 ghost use Rattle.checks.specs.Addresses.{BlocksAre};
+ghost use Rattle.model.specs.Limits.{max_blocks};
 ghost use Rattle.model.specs.Refusals.{Misjoined};
 ghost use Rattle.model.specs.Shape.{Domain};
 ghost use Rattle.model.specs.Tree.{Tree};
@@ -23,9 +24,10 @@ fn check_source<A: Kind, R: Kind>(
     frames: &mut [Frame<A::Row>],
     property: Property<A, R>,
 ) -> Result<(), Refusal<A::Value, R::Value>>
-    ensures { (t : Tree A R) → BlocksAre A.Kind blocks.now t → SourceChecked A.Kind.holds R.Kind.holds t property (length frames.old) result }
+    requires { length blocks.now < length frames.old }
+    ensures { (t : Tree A R) → BlocksAre A.Kind blocks.now t → SourceChecked A.Kind.holds R.Kind.holds t property result }
 {
-    match source_astray(blocks, property, frames)? {
+    match source_astray(blocks, property, frames) {
         Some(address) => Err(Refusal::SourceAstray { address }),
         None => Ok(()),
     }
@@ -37,9 +39,10 @@ fn check_destination<A: Kind, R: Kind>(
     frames: &mut [Frame<A::Row>],
     property: Property<A, R>,
 ) -> Result<(), Refusal<A::Value, R::Value>>
-    ensures { (t : Tree A R) → BlocksAre A.Kind blocks.now t → DestinationChecked A.Kind.holds R.Kind.holds t property (length frames.old) result }
+    requires { length blocks.now < length frames.old }
+    ensures { (t : Tree A R) → BlocksAre A.Kind blocks.now t → DestinationChecked A.Kind.holds R.Kind.holds t property result }
 {
-    match find_astray::<A, R>(blocks, property.destination, property.to, frames)? {
+    match find_astray::<A, R>(blocks, property.destination, property.to, frames) {
         Some(address) => Err(Refusal::DestinationAstray { address }),
         None => Ok(()),
     }
@@ -83,7 +86,8 @@ pub(crate) fn check_offer<A: Kind, R: Kind>(
     frames: &mut [Frame<A::Row>],
     property: Property<A, R>,
 ) -> Result<(), Refusal<A::Value, R::Value>>
-    ensures { (t : Tree A R) → state.now.addresses ≡ t.addresses → state.now.rests ≡ t.rests → shape_of state.now.tree ≡ t.shape → BlocksAre A.Kind (take state.now.block_count blocks.now) t → OfferChecked A.Kind.holds R.Kind.holds t property (length frames.old) result }
+    requires { max_blocks < length frames.old }
+    ensures { (t : Tree A R) → state.now.addresses ≡ t.addresses → state.now.rests ≡ t.rests → shape_of state.now.tree ≡ t.shape → BlocksAre A.Kind (take state.now.block_count blocks.now) t → OfferChecked A.Kind.holds R.Kind.holds t property result }
 {
     state.check_regions_inside(property.source, property.destination, property.rest)?;
     check_joined(state, property)?;

@@ -1,8 +1,9 @@
 // Properties that stand.
-ghost use Rattle.std.specs.Prelude.{◌≡◌, length};
+ghost use Rattle.std.specs.Prelude.{◌≡◌, ◌<◌, length};
 ghost use Rattle.checks.specs.Rows.{rule_entry};
 ghost use Rattle.lists.specs.Layout.{Laid};
 ghost use Rattle.lists.specs.Lengths.{lengths_of};
+ghost use Rattle.model.specs.Limits.{max_list};
 ghost use Rattle.model.specs.Tree.{Tree};
 ghost use Rattle.model.specs.declared.answers.Answer.TheVariants.{Done};
 ghost use Rattle.model.specs.declared.calls.Call.TheVariants.{Stand, Withdraw};
@@ -27,9 +28,10 @@ fn check_offer_kept<A: Kind, R: Kind>(
     frames: &mut [Frame<PacketRow<A::Row, R::Row>>],
     property: Property<A, R>,
 ) -> Result<(), Refusal<A::Value, R::Value>>
-    ensures { (t : Tree A R) → shape_of state.now.tree ≡ t.shape → Laid (rule_entry A.Kind.plain R.Kind.plain) (lengths_of state.now.lists) rules.now t.lists → KeptChecked A.Kind.holds R.Kind.holds t property state.now.property_count (length frames.old) result }
+    requires { max_list < length frames.old }
+    ensures { (t : Tree A R) → shape_of state.now.tree ≡ t.shape → Laid (rule_entry A.Kind.plain R.Kind.plain) (lengths_of state.now.lists) rules.now t.lists → KeptChecked A.Kind.holds R.Kind.holds t property state.now.property_count result }
 {
-    match first_break(state, rules, frames, property)? {
+    match first_break(state, rules, frames, property) {
         Some(found) => Err(Refusal::Breaks {
             property: state.property_count,
             firewall: found.firewall,
@@ -58,8 +60,7 @@ pub fn stand<A: Kind, R: Kind>(
     check_offer(state, blocks, address_frames, property)?;
     check_offer_kept(state, rules, packet_frames, property)?;
     let used = state.property_count;
-    // There is room; that `unwrap` may be called was tried, and not proved.
-    let _ = replace_row(memory.properties, used + 1, used, property_row(property));
+    replace_row(memory.properties, used + 1, used, property_row(property)).unwrap();
     state.property_count = used + 1;
     Ok(())
 }

@@ -1,11 +1,12 @@
-use Rattle.std.proofs.Common.{refl, ◌≡◌, ◌+◌, length, take, drop, set, Some, ◌∙◌, subst, arith}
+use Rattle.std.proofs.Common.{refl, ◌≡◌, ◌+◌, length, take, drop, set, Some, ap, ◌∙◌, subst, arith}
 use Rattle.std.specs.List.{slice_get}
 use Rattle.std.proofs.lemmas.Result.{err_from_is_err_and}
 use Rattle.model.specs.declared.calls.Call.TheVariants.{Alter}
+use Rattle.lists.proofs.Bounds.{length_max}
 use Rattle.state.specs.Memory.{lent_by, tables_of}
 use Rattle.state.proofs.Tries.{chosen, row_answered}
 use Rattle.edits.specs.Edits.{There, list_length}
-use Rattle.edits.proofs.Edits.{row_there, opened_tried, alter_done, alter_undone}
+use Rattle.edits.proofs.Edits.{frames_enough, row_there, opened_tried, alter_done, alter_undone}
 use Rattle.edits.proofs.rules.alter.Goals as goal
 
 pub returns-in_err-check_alter-clause-does : goal.returns-in_err-check_alter-clause-does
@@ -20,6 +21,14 @@ returns-in_err-check_alter-clause-does g c =
 pub unwrap-old-requires : goal.unwrap-old-requires
 unwrap-old-requires g c = c.replace_row.ensures.there.1 (row_there c.args.state.now (lent_by c.args.memory.now) c.args.firewall c.args.position c.in_ok-check_alter.ensures.fits _ _ c.total-used.ensures c.start-start.ensures)
 
+pub check_edited-requires : goal.check_edited-requires
+check_edited-requires g c =
+    let there = c.in_ok-check_alter.ensures.fits in
+    let few = length_max c.args.state.now.lists c.args.firewall in
+    let is = ap length c.rows_from.ensures in
+    let less = frames_enough (lent_by c.args.memory.now) there.long c.length-size.result (omega (arith, c.length-size.ensures)) (drop c.start-start.result c.replace_row.new.rows) in
+    omega arith
+
 pub returns-in-Ok-clause-does : goal.returns-in-Ok-clause-does
 returns-in-Ok-clause-does g c =
     let there = c.in_ok-check_alter.ensures.fits in
@@ -27,7 +36,7 @@ returns-in-Ok-clause-does g c =
     let rows = c.replace_row.new.rows in
     let within = row_there c.args.state.now (lent_by m) c.args.firewall c.args.position there _ _ c.total-used.ensures c.start-start.ensures in
     alter_done g.A.Kind g.R.Kind c.args.state.now (lent_by m) m.rules.now rows m.blocks.now m.properties.now
-    c.args.firewall c.args.position c.args.rule there refl (length m.packet_frames.now) refl
+    c.args.firewall c.args.position c.args.rule there refl
     (chosen _ _ _ _ c.replace_row.ensures.there within c.replace_row.ensures.after ∙ (λ i. set m.rules.now (c.start-start.ensures i + c.args.position) (c.rule_row.ensures i)))
     c.in_ok-check_alter.ensures.right tt
     (λ t rs stands is. c.in-Ok.ensures t rs stands (c.rows_from.ensures ∙ (λ i. take (c.length-size.ensures i) (drop (c.start-start.ensures i) rows)) ∙ is))
@@ -39,7 +48,7 @@ returns-in-Err-clause-does g c =
     let rows = c.replace_row.new.rows in
     let within = row_there c.args.state.now (lent_by m) c.args.firewall c.args.position there _ _ c.total-used.ensures c.start-start.ensures in
     alter_undone g.A.Kind g.R.Kind c.args.state.now (lent_by m) m.rules.now rows m.blocks.now m.properties.now
-    c.args.firewall c.args.position c.args.rule there refl (length m.packet_frames.now) refl
+    c.args.firewall c.args.position c.args.rule there refl
     (chosen _ _ _ _ c.replace_row.ensures.there within c.replace_row.ensures.after ∙ (λ i. set m.rules.now (c.start-start.ensures i + c.args.position) (c.rule_row.ensures i)))
     c.in_ok-check_alter.ensures.right c.in-Err.refusal
     (λ t rs stands is. c.in-Err.ensures t rs stands (c.rows_from.ensures ∙ (λ i. take (c.length-size.ensures i) (drop (c.start-start.ensures i) rows)) ∙ is))

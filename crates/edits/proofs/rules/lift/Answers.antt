@@ -1,13 +1,14 @@
-use Rattle.std.proofs.Common.{◌≡◌, ◌+◌, ◌-◌, length, take, drop, Some, refl, ◌∙◌, subst, arith}
+use Rattle.std.proofs.Common.{◌≡◌, ◌+◌, ◌-◌, length, take, drop, Some, refl, ap, ◌∙◌, subst, arith}
 use Rattle.std.specs.List.{slice_get}
 use Rattle.std.specs.Option.{is_some}
 use Rattle.std.proofs.lemmas.Result.{err_from_is_err_and}
 use Rattle.model.specs.declared.calls.Call.TheVariants.{Lift}
+use Rattle.lists.proofs.Bounds.{length_max}
 use Rattle.tables.specs.Rows.{row_in, row_out}
 use Rattle.state.specs.Memory.{lent_by, tables_of}
 use Rattle.state.proofs.Tries.{chosen, row_answered}
 use Rattle.edits.specs.Edits.{There, list_length}
-use Rattle.edits.proofs.Edits.{row_there, opened_tried, lift_done, lift_undone}
+use Rattle.edits.proofs.Edits.{frames_enough, row_there, opened_tried, lift_done, lift_undone}
 use Rattle.edits.proofs.rules.lift.Goals as goal
 
 pub returns-in_err-check_lift-clause-does : goal.returns-in_err-check_lift-clause-does
@@ -27,6 +28,14 @@ overflow_sub-used g c =
     let within = row_there c.args.state.now (lent_by c.args.memory.now) c.args.firewall c.args.position c.in_ok-check_lift.ensures.fits _ _ c.total-used.ensures c.start-start.ensures in
     omega (arith, within.0)
 
+pub check_edited-requires : goal.check_edited-requires
+check_edited-requires g c =
+    let there = c.in_ok-check_lift.ensures.fits in
+    let few = length_max c.args.state.now.lists c.args.firewall in
+    let is = ap length c.rows_from.ensures in
+    let less = frames_enough (lent_by c.args.memory.now) there.long (c.length-size.result - 1) (omega (arith, c.length-size.ensures)) (drop c.start-start.result c.remove_row.new.rows) in
+    omega arith
+
 pub returns-in-Ok-clause-does : goal.returns-in-Ok-clause-does
 returns-in-Ok-clause-does g c =
     let there = c.in_ok-check_lift.ensures.fits in
@@ -34,7 +43,7 @@ returns-in-Ok-clause-does g c =
     let rows = c.remove_row.new.rows in
     let within = row_there c.args.state.now (lent_by m) c.args.firewall c.args.position there _ _ c.total-used.ensures c.start-start.ensures in
     lift_done g.A.Kind g.R.Kind c.args.state.now (lent_by m) m.rules.now rows m.blocks.now m.properties.now
-    c.args.firewall c.args.position there refl (length m.packet_frames.now) refl
+    c.args.firewall c.args.position there refl
     (chosen _ _ _ _ c.remove_row.ensures.there within c.remove_row.ensures.after ∙ (λ i. row_out (c.total-used.ensures i) (c.start-start.ensures i + c.args.position) m.rules.now))
     c.in_ok-check_lift.ensures.right tt
     (λ t rs stands is. c.in-Ok.ensures t rs stands (c.rows_from.ensures ∙ (λ i. take (c.length-size.ensures i - 1) (drop (c.start-start.ensures i) rows)) ∙ is))
@@ -47,7 +56,7 @@ returns-in-Err-clause-does g c =
     let rows = c.remove_row.new.rows in
     let within = row_there c.args.state.now (lent_by m) c.args.firewall c.args.position there _ _ c.total-used.ensures c.start-start.ensures in
     lift_undone g.A.Kind g.R.Kind c.args.state.now (lent_by m) m.rules.now rows m.blocks.now m.properties.now
-    c.args.firewall c.args.position there refl (length m.packet_frames.now) refl
+    c.args.firewall c.args.position there refl
     (chosen _ _ _ _ c.remove_row.ensures.there within c.remove_row.ensures.after ∙ (λ i. row_out (c.total-used.ensures i) (c.start-start.ensures i + c.args.position) m.rules.now))
     c.in_ok-check_lift.ensures.right c.in-Err.refusal
     (λ t rs stands is. c.in-Err.ensures t rs stands (c.rows_from.ensures ∙ (λ i. take (c.length-size.ensures i - 1) (drop (c.start-start.ensures i) rows)) ∙ is))

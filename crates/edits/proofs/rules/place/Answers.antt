@@ -1,4 +1,4 @@
-use Rattle.std.proofs.Common.{◌≡◌, ◌+◌, length, take, drop, set, Some, refl, ◌∙◌, subst, arith}
+use Rattle.std.proofs.Common.{◌≡◌, ◌+◌, length, take, drop, set, Some, refl, ap, ◌∙◌, subst, arith}
 use Rattle.std.specs.List.{slice_get}
 use Rattle.std.specs.Result.{is_ok}
 use Rattle.std.proofs.lemmas.Result.{err_from_is_err_and}
@@ -7,7 +7,7 @@ use Rattle.tables.specs.Rows.{row_in, row_out}
 use Rattle.state.specs.Memory.{lent_by, tables_of}
 use Rattle.state.proofs.Tries.{chosen, row_answered}
 use Rattle.edits.specs.Edits.{There, Room, list_length}
-use Rattle.edits.proofs.Edits.{place_there, opened_tried, place_done, place_undone}
+use Rattle.edits.proofs.Edits.{frames_enough, place_there, opened_tried, place_done, place_undone}
 use Rattle.edits.proofs.rules.place.Goals as goal
 
 pub returns-in_err-check_place-clause-does : goal.returns-in_err-check_place-clause-does
@@ -22,6 +22,14 @@ returns-in_err-check_place-clause-does g c =
 pub unwrap-behind-requires : goal.unwrap-behind-requires
 unwrap-behind-requires g c = c.insert_row.ensures.room.1 (place_there c.args.state.now (lent_by c.args.memory.now) c.args.firewall c.args.position c.in_ok-check_place.ensures.fits _ _ c.total-used.ensures c.start-start.ensures)
 
+pub check_kept-requires : goal.check_kept-requires
+check_kept-requires g c =
+    let (there, room) = c.in_ok-check_place.ensures.fits in
+    let free = room.list in
+    let is = ap length c.rows_from.ensures in
+    let less = frames_enough (lent_by c.args.memory.now) there.long (c.length-size.result + 1) (omega (arith, c.length-size.ensures)) (drop c.start-start.result c.insert_row.new.rows) in
+    omega arith
+
 pub returns-in-Ok-clause-does : goal.returns-in-Ok-clause-does
 returns-in-Ok-clause-does g c =
     let (there, room) = c.in_ok-check_place.ensures.fits in
@@ -29,7 +37,7 @@ returns-in-Ok-clause-does g c =
     let rows = c.insert_row.new.rows in
     let within = place_there c.args.state.now (lent_by m) c.args.firewall c.args.position c.in_ok-check_place.ensures.fits _ _ c.total-used.ensures c.start-start.ensures in
     place_done g.A.Kind g.R.Kind c.args.state.now (lent_by m) m.rules.now rows m.blocks.now m.properties.now
-    c.args.firewall c.args.position c.args.rule there room refl (length m.packet_frames.now) refl
+    c.args.firewall c.args.position c.args.rule there room refl
     (chosen _ _ _ _ c.insert_row.ensures.room within c.insert_row.ensures.after ∙ (λ i. row_in (c.total-used.ensures i) (c.start-start.ensures i + c.args.position) (c.rule_row.ensures i) m.rules.now))
     c.in_ok-check_place.ensures.right tt
     (λ t rs stands is. c.in-Ok.ensures t rs stands (c.rows_from.ensures ∙ (λ i. take (c.length-size.ensures i + 1) (drop (c.start-start.ensures i) rows)) ∙ is))
@@ -45,7 +53,7 @@ returns-in-Err-clause-does g c =
     let out = chosen _ _ _ _ c.remove_row.ensures.there (omega (arith, within.0), omega (arith, within.1, c.insert_row.auto.rows)) c.remove_row.ensures.after in
     let last = chosen _ _ _ _ c.replace_row.ensures.there (omega arith, omega (arith, within.1, c.insert_row.auto.rows, c.remove_row.auto.rows)) c.replace_row.ensures.after in
     place_undone g.A.Kind g.R.Kind c.args.state.now (lent_by m) m.rules.now rows m.blocks.now m.properties.now
-    c.args.firewall c.args.position c.args.rule there room refl (length m.packet_frames.now) refl
+    c.args.firewall c.args.position c.args.rule there room refl
     (chosen _ _ _ _ c.insert_row.ensures.room within c.insert_row.ensures.after ∙ (λ i. row_in (used i) (c.start-start.ensures i + c.args.position) (c.rule_row.ensures i) m.rules.now))
     c.in_ok-check_place.ensures.right c.in-Err.refusal
     (λ t rs stands is. c.in-Err.ensures t rs stands (c.rows_from.ensures ∙ (λ i. take (c.length-size.ensures i + 1) (drop (c.start-start.ensures i) rows)) ∙ is))

@@ -49,7 +49,13 @@ unwrap-old-requires g c =
     let room = c.in_ok-check_room.ensures in
     c.replace_row.ensures.there.1 (omega arith, omega arith)
 
--- there are more frames than blocks
+pub unwrap-requires : goal.unwrap-requires
+unwrap-requires g c =
+    let long = lent_enough (lent_by c.args.memory.now) c.in_ok-check_lengths.ensures in
+    let room = c.in_ok-check_room.ensures in
+    let kept = c.replace_row.auto.rows in
+    c.replace_row-in-Err.ensures.there.1 (omega arith, omega arith)
+
 pub returns-in-Ok-clause-does : goal.returns-in-Ok-clause-does
 returns-in-Ok-clause-does g c =
     let s = tables_of c.args.memory.now in

@@ -1,10 +1,9 @@
-use Rattle.std.proofs.Common.{length, refl, inl, inr}
-use Rattle.model.specs.declared.answers.Refusal.TheVariants.{TooShort}
+use Rattle.std.proofs.Common.{refl}
 use Rattle.model.specs.declared.calls.Call.TheVariants.{Ask}
 use Rattle.state.specs.Memory.{lent_by, tables_of}
 use Rattle.state.proofs.Tries.{tried_exit_short, tried_exit_right, reached_grown}
 use Rattle.offers.specs.Asked.{asked_as}
-use Rattle.offers.proofs.Asking.{blocks_are, frames_enough, break_frames, ask_misfits, ask_turns}
+use Rattle.offers.proofs.Asking.{blocks_are, ask_misfits, ask_turns}
 use Rattle.offers.proofs.asks.ask.Goals as goal
 
 pub returns-in_err-check_lengths-clause-does : goal.returns-in_err-check_lengths-clause-does
@@ -21,18 +20,8 @@ returns-in_err-check_offer-clause-does g c =
     tried_exit_right g.A.Kind g.R.Kind (Ask c.args.property) (lent_by c.args.memory.now) asked_as was s _ c.from_residual-in_err-check_offer.result c.from_residual-in_err-check_offer.ensures.1 long
     (λ t reached pic.
     let grown = reached_grown g.A.Kind.holds g.R.Kind.holds t reached in
-    elim (c.in_err-check_offer.ensures t pic.addresses pic.rests pic.shape (blocks_are g.A.Kind g.R.Kind was s t pic grown)) [
-      | inl short ↦ absurd (frames_enough g.A.Kind g.R.Kind was s t pic (lent_by c.args.memory.now) long _ refl short)
-      | inr misfit ↦ ask_misfits g.A.Kind g.R.Kind was s t pic c.args.property (lent_by c.args.memory.now) long c.in_ok-check_between.ensures _ misfit
-    ])
-
-pub returns-in_err-first_break-clause-does : goal.returns-in_err-first_break-clause-does
-returns-in_err-first_break-clause-does g c =
-    let long = c.in_ok-check_lengths.ensures in
-    let was = c.args.state.now in
-    let s = tables_of c.args.memory.now in
-    tried_exit_right g.A.Kind g.R.Kind (Ask c.args.property) (lent_by c.args.memory.now) asked_as was s TooShort c.from_residual-in_err-first_break.result c.from_residual-in_err-first_break.ensures.1 long
-    (λ t reached pic. absurd (break_frames g.A.Kind g.R.Kind was s t pic (lent_by c.args.memory.now) long _ refl (c.in_err-first_break.ensures t pic.shape pic.lists)))
+    let misfit = c.in_err-check_offer.ensures t pic.addresses pic.rests pic.shape (blocks_are g.A.Kind g.R.Kind was s t pic grown) in
+    ask_misfits g.A.Kind g.R.Kind was s t pic c.args.property (lent_by c.args.memory.now) long c.in_ok-check_between.ensures _ misfit)
 
 pub returns-clause-does : goal.returns-clause-does
 returns-clause-does g c =
@@ -43,7 +32,7 @@ returns-clause-does g c =
       turns = λ t reached pic.
           let grown = reached_grown g.A.Kind.holds g.R.Kind.holds t reached in
           let fits = c.in_ok-check_offer.ensures t pic.addresses pic.rests pic.shape (blocks_are g.A.Kind g.R.Kind was s t pic grown) in
-          ask_turns g.A.Kind g.R.Kind was s t pic c.args.property (lent_by c.args.memory.now) long c.in_ok-check_between.ensures fits (length c.args.memory.now.packet_frames.now) c.in_ok-first_break.field-0 (c.in_ok-first_break.ensures t pic.shape pic.lists);
+          ask_turns g.A.Kind g.R.Kind was s t pic c.args.property (lent_by c.args.memory.now) long c.in_ok-check_between.ensures fits c.first_break.result (c.first_break.ensures t pic.shape pic.lists);
       state = tt;
       tables = refl;
       short = λ x. absurd (long x);

@@ -1,12 +1,13 @@
 use Rattle.std.specs.Option.{is_some}
-use Rattle.std.proofs.Common.{refl, ap, inl, inr}
+use Rattle.std.proofs.Common.{refl, ap, arith}
 use Rattle.model.specs.declared.answers.Answer.TheVariants.{Done}
 use Rattle.model.specs.declared.calls.Call.TheVariants.{Stand}
 use Rattle.checks.specs.Rows.{property_row}
 use Rattle.state.specs.Rows.{with_properties}
 use Rattle.state.specs.Memory.{lent_by, tables_of}
+use Rattle.state.proofs.Lent.{lent_enough}
 use Rattle.state.proofs.Tries.{tried_exit_short, tried_exit_right, reached_grown}
-use Rattle.offers.proofs.Asking.{blocks_are, frames_enough, break_frames}
+use Rattle.offers.proofs.Asking.{blocks_are}
 use Rattle.offers.proofs.Standing.{stand_misfits, stand_breaks, stand_right, stand_rows, stand_pictures, stand_count}
 use Rattle.offers.proofs.properties.stand.Goals as goal
 
@@ -24,10 +25,8 @@ returns-in_err-check_offer-clause-does g c =
     tried_exit_right g.A.Kind g.R.Kind (Stand c.args.property) (lent_by c.args.memory.now) (λ _. Done) was s _ c.from_residual-in_err-check_offer.result c.from_residual-in_err-check_offer.ensures.1 long
     (λ t reached pic.
     let grown = reached_grown g.A.Kind.holds g.R.Kind.holds t reached in
-    elim (c.in_err-check_offer.ensures t pic.addresses pic.rests pic.shape (blocks_are g.A.Kind g.R.Kind was s t pic grown)) [
-      | inl short ↦ absurd (frames_enough g.A.Kind g.R.Kind was s t pic (lent_by c.args.memory.now) long _ refl short)
-      | inr misfit ↦ stand_misfits g.A.Kind g.R.Kind was s t pic c.args.property (lent_by c.args.memory.now) long c.in_ok-check_between.ensures c.in_ok-check_room.ensures _ misfit
-    ])
+    let misfit = c.in_err-check_offer.ensures t pic.addresses pic.rests pic.shape (blocks_are g.A.Kind g.R.Kind was s t pic grown) in
+    stand_misfits g.A.Kind g.R.Kind was s t pic c.args.property (lent_by c.args.memory.now) long c.in_ok-check_between.ensures c.in_ok-check_room.ensures _ misfit)
 
 pub returns-in_err-check_offer_kept-clause-does : goal.returns-in_err-check_offer_kept-clause-does
 returns-in_err-check_offer_kept-clause-does g c =
@@ -38,10 +37,14 @@ returns-in_err-check_offer_kept-clause-does g c =
     (λ t reached pic.
     let grown = reached_grown g.A.Kind.holds g.R.Kind.holds t reached in
     let fits = c.in_ok-check_offer.ensures t pic.addresses pic.rests pic.shape (blocks_are g.A.Kind g.R.Kind was s t pic grown) in
-    elim (c.in_err-check_offer_kept.ensures t pic.shape pic.lists) [
-      | inl short ↦ absurd (break_frames g.A.Kind g.R.Kind was s t pic (lent_by c.args.memory.now) long _ refl short)
-      | inr (f, k, is, b) ↦ stand_breaks g.A.Kind g.R.Kind was s t pic c.args.property (lent_by c.args.memory.now) long c.in_ok-check_between.ensures c.in_ok-check_room.ensures fits _ f k is b
-    ])
+    let (f, k, is, b) = c.in_err-check_offer_kept.ensures t pic.shape pic.lists in
+    stand_breaks g.A.Kind g.R.Kind was s t pic c.args.property (lent_by c.args.memory.now) long c.in_ok-check_between.ensures c.in_ok-check_room.ensures fits _ f k is b)
+
+pub unwrap-requires : goal.unwrap-requires
+unwrap-requires g c =
+    let long = lent_enough (lent_by c.args.memory.now) c.in_ok-check_lengths.ensures in
+    let room = c.in_ok-check_room.ensures in
+    c.replace_row.ensures.there.1 (omega arith, omega arith)
 
 pub returns-clause-does : goal.returns-clause-does
 returns-clause-does g c =
