@@ -24,6 +24,7 @@ pub struct TooShort;
 
 /// A value of the target whose outcome in the list is as wished; nothing exactly where no value of
 /// the target has such an outcome. Which of these values it is, is left open.
+#[tactic(auto, using(crate::proofs::Views::met_well, crate::proofs::Views::well_met))]
 pub fn find<K: Kind>(
     list: &[Entry<K::Row>],
     target: K,

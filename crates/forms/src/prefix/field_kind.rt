@@ -126,6 +126,7 @@ impl Kind for Prefix {
     }
 
     // The longer of two that share a value lies inside the shorter.
+    #[tactic(auto, using(crate::proofs::Halves::inside_in, crate::proofs::Halves::disjoint_in))]
     fn relation(self, other: Prefix) -> Relation {
         if other.length <= self.length {
             if other.has(self.address) {

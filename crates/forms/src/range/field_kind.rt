@@ -106,7 +106,7 @@ impl Kind for Range {
     }
 
     fn relation(self, other: Range) -> Relation {
-        if self.hi < other.lo || other.hi < self.lo {
+        if other.hi < self.lo || self.hi < other.lo {
             Relation::Apart
         } else if other.lo <= self.lo && self.hi <= other.hi {
             Relation::Inside

@@ -91,6 +91,7 @@ impl Kind for Set {
         }
     }
 
+    #[tactic(auto, using(crate::proofs::Bits::apart_bits, crate::proofs::Bits::inside_bits, crate::proofs::Bits::crossing_bits))]
     fn relation(self, other: Set) -> Relation {
         let common = self.mask & other.mask;
         let others = self.mask ^ common;
