@@ -1,6 +1,7 @@
 // Lines of all sorts.
 use crate::mutate::mutate;
-use crate::random::Random;
+use crate::random::Drawing;
+use chance::Random;
 use crate::words::well_formed;
 use std::alloc::{AllocError, Global};
 

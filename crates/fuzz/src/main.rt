@@ -16,7 +16,7 @@ mod words;
 
 use anyhow::{Context, ensure};
 use draw::draw;
-use random::Random;
+use chance::Random;
 use run::run;
 use std::alloc::Global;
 use std::env;

@@ -1,5 +1,6 @@
 // Lines that are spoiled.
-use crate::random::Random;
+use crate::random::Drawing;
+use chance::Random;
 use std::alloc::{AllocError, Global};
 
 const COMMA: u8 = b',';
@@ -9,7 +10,7 @@ fn byte(random: &mut Random) -> u8 {
     match random.below(4) {
         0 => random.byte(),
         1 => random.printed(),
-        _ => random.pick_byte(b"0123456789,.-/adfTx "),
+        _ => random.pick(b"0123456789,.-/adfTx ").unwrap_or(b'0'),
     }
 }
 

@@ -1,5 +1,6 @@
 // Lines that are well formed, with small numbers, so that calls often succeed.
-use crate::random::Random;
+use crate::random::Drawing;
+use chance::Random;
 use std::alloc::{AllocError, Global};
 
 // The letters of lines, those that come more often more than once.
@@ -72,7 +73,7 @@ fn number(random: &mut Random, most: usize) -> usize {
 // A prefix, mostly one that is meant for the domain.
 fn place(heap: Global, random: &mut Random, domain: usize) -> Result<String, AllocError> {
     match random.below(4) {
-        0 => String::from_str(heap, random.pick(&PREFIXES)),
+        0 => String::from_str(heap, random.text(&PREFIXES)),
         _ if domain == 0 => String::from_str(heap, "11.0.0.0/8"),
         _ => format!(in heap; "10.{domain}.0.0/16"),
     }
@@ -87,9 +88,9 @@ fn regions(
 ) -> Result<String, AllocError> {
     let source = place(heap, random, from)?;
     let destination = place(heap, random, to)?;
-    let first = random.pick(&PORTS);
-    let second = random.pick(&PORTS);
-    let protocols = random.pick(&PROTOCOLS);
+    let first = random.text(&PORTS);
+    let second = random.text(&PORTS);
+    let protocols = random.text(&PROTOCOLS);
     format!(in heap; "{source},{destination},{first},{second},{protocols}")
 }
 
@@ -97,7 +98,7 @@ fn attach(heap: Global, random: &mut Random) -> Result<String, AllocError> {
     let domain = number(random, NODES);
     let upper = number(random, INTERFACES);
     let lower = number(random, INTERFACES);
-    let decision = random.pick(&DECISIONS);
+    let decision = random.text(&DECISIONS);
     format!(in heap; "{domain},{upper},{lower},{decision}")
 }
 
@@ -117,8 +118,8 @@ fn give(heap: Global, random: &mut Random) -> Result<String, AllocError> {
 fn rule(heap: Global, random: &mut Random) -> Result<String, AllocError> {
     let firewall = number(random, NODES);
     let position = number(random, ROWS);
-    let decision = random.pick(&DECISIONS);
-    let set = random.pick(&SETS);
+    let decision = random.text(&DECISIONS);
+    let set = random.text(&SETS);
     let from = random.below(NODES);
     let to = random.below(NODES);
     let regions = regions(heap, random, from, to)?;
@@ -126,7 +127,7 @@ fn rule(heap: Global, random: &mut Random) -> Result<String, AllocError> {
 }
 
 fn property(heap: Global, random: &mut Random) -> Result<String, AllocError> {
-    let decision = random.pick(&DECISIONS);
+    let decision = random.text(&DECISIONS);
     let from = number(random, NODES);
     let to = number(random, NODES);
     let regions = regions(heap, random, from, to)?;
@@ -134,11 +135,11 @@ fn property(heap: Global, random: &mut Random) -> Result<String, AllocError> {
 }
 
 fn packet(heap: Global, random: &mut Random) -> Result<String, AllocError> {
-    let source = random.pick(&ADDRESSES);
-    let destination = random.pick(&ADDRESSES);
-    let from = random.pick(&VALUES);
-    let to = random.pick(&VALUES);
-    let protocol = random.pick(&VALUES);
+    let source = random.text(&ADDRESSES);
+    let destination = random.text(&ADDRESSES);
+    let from = random.text(&VALUES);
+    let to = random.text(&VALUES);
+    let protocol = random.text(&VALUES);
     format!(in heap; "{source},{destination},{from},{to},{protocol}")
 }
 

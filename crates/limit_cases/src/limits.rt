@@ -1,6 +1,7 @@
 // The runs: each fills a register of its own until something is full.
 use crate::numbered::Numbered;
 use crate::session::{CallOf, Session};
+use crate::shown::show;
 use anyhow::{bail, ensure};
 use kinds::{Kind, Set};
 use model::{Call, Decision, Property, Rule};
@@ -14,6 +15,8 @@ pub struct Limits {
     domains: usize,
     blocks: usize,
     properties: usize,
+    // Answers that showed an address or a packet.
+    shown: u32,
 }
 
 impl fmt::Display for Limits {
@@ -24,6 +27,7 @@ impl fmt::Display for Limits {
             domains,
             blocks,
             properties,
+            shown,
         } = *self;
         writeln!(
             f,
@@ -41,10 +45,11 @@ impl fmt::Display for Limits {
             f,
             "blocks: {blocks} fit, the next gets 4, and fits after one take"
         )?;
-        write!(
+        writeln!(
             f,
             "properties: {properties} fit, the next gets 4, and fits after one withdraw"
-        )
+        )?;
+        write!(f, "{shown} answers show an address or a packet")
     }
 }
 
@@ -88,7 +93,7 @@ fn fill<A: Kind + Numbered, R: Kind + Numbered, F: Fn(usize) -> CallOf<A, R>>(
     bail!("a thousand calls, and nothing is full")
 }
 
-fn must_fit<A: Kind + Numbered, R: Kind + Numbered>(
+pub(crate) fn must_fit<A: Kind + Numbered, R: Kind + Numbered>(
     session: &mut Session<A, R>,
     call: CallOf<A, R>,
 ) -> anyhow::Result<()> {
@@ -97,7 +102,7 @@ fn must_fit<A: Kind + Numbered, R: Kind + Numbered>(
 }
 
 // Firewalls below the street, each with a domain.
-fn attach_some<A: Kind + Numbered, R: Kind + Numbered>(
+pub(crate) fn attach_some<A: Kind + Numbered, R: Kind + Numbered>(
     session: &mut Session<A, R>,
     count: usize,
 ) -> anyhow::Result<()> {
@@ -210,5 +215,6 @@ pub(crate) fn run_all<A: Kind + Numbered, R: Kind + Numbered>(
         domains: tree(session)?,
         blocks: blocks(session)?,
         properties: properties(session)?,
+        shown: show(session)?,
     })
 }

@@ -1,11 +1,13 @@
 // Goes to the limits of a register, in both packet forms: how much fits, what the next call gets, and whether
-// the next fits once something is gone. Each run is made again with other junk in the frames, and with slices
-// that are a row too short before each call: the answers must be the same.
+// the next fits once something is gone; and makes calls whose answers show addresses and packets. Each run is
+// made again with other junk in the frames, and with slices that are a row too short before each call: the
+// answers must be the same, call by call, with all that they show.
 #![tactic(auto)]
 
 mod limits;
 mod numbered;
 mod session;
+mod shown;
 mod sizes;
 
 use anyhow::ensure;

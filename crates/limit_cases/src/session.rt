@@ -25,7 +25,11 @@ pub struct Session<A: Kind, R: Kind> {
     register: Register<A, R>,
     stores: Stores<A::Row, R::Row>,
     manner: Manner,
+    calls: usize,
     pub short_calls: u32,
+    // Answers that showed an address or a packet.
+    pub shown: u32,
+    // Of each call its number, and then the numbers of its answer.
     pub log: Vec<u32>,
 }
 
@@ -115,6 +119,22 @@ fn note<A: Kind + Numbered, R: Kind + Numbered>(
     }
 }
 
+// Whether an answer shows an address or a packet.
+fn shows<V, W>(answer: &Answer<V, W>) -> bool {
+    match answer {
+        Answer::Broken { .. } => true,
+        Answer::Refused { refusal } => matches!(
+            refusal,
+            Refusal::SourceAstray { .. }
+                | Refusal::DestinationAstray { .. }
+                | Refusal::Unmatched { .. }
+                | Refusal::Misplaced { .. }
+                | Refusal::Breaks { .. }
+        ),
+        _ => false,
+    }
+}
+
 // The number of the refusal that an answer is, if it is one.
 fn refused<V, W>(answer: &Answer<V, W>) -> Option<u8> {
     match answer {
@@ -150,7 +170,9 @@ impl<A: Kind + Numbered, R: Kind + Numbered> Session<A, R> {
             register: Register::new(addresses, rests),
             stores,
             manner,
+            calls: 0,
             short_calls: 0,
+            shown: 0,
             log: Vec::new(alloc),
         })
     }
@@ -160,15 +182,20 @@ impl<A: Kind + Numbered, R: Kind + Numbered> Session<A, R> {
         self.register = Register::new(self.addresses, self.rests);
     }
 
-    // Writes other rows and positions into all frames.
-    fn write_junk(&mut self, region: A, rest: R) {
-        let row = whole_packets(region, rest).row();
+    // Fills all frames with other rows: in turn those of one value and those of the wholes.
+    fn write_junk(&mut self) {
+        let number = (self.calls & 0xff) as u32;
+        let (address, rest) = match (A::single(number), R::single(number % 2)) {
+            (Some(address), Some(rest)) if number % 3 != 0 => (address, rest),
+            _ => (self.addresses, self.rests),
+        };
+        let packet_frame = Frame::filled(whole_packets(address, rest).row());
         for frame in self.stores.packet_frames.iter_mut() {
-            *frame = Frame::filled(row);
+            *frame = packet_frame;
         }
-        let row = region.row();
+        let address_frame = Frame::filled(address.row());
         for frame in self.stores.address_frames.iter_mut() {
-            *frame = Frame::filled(row);
+            *frame = address_frame;
         }
     }
 
@@ -189,15 +216,16 @@ impl<A: Kind + Numbered, R: Kind + Numbered> Session<A, R> {
     pub(crate) fn call(&mut self, call: CallOf<A, R>) -> anyhow::Result<Option<u8>> {
         match self.manner {
             Manner::Plain => (),
-            Manner::Junk => {
-                if let (Some(region), Some(rest)) = (A::single(3), R::single(1)) {
-                    self.write_junk(region, rest);
-                }
-            }
+            Manner::Junk => self.write_junk(),
             Manner::Short => self.call_short(call)?,
         }
         let answer = lend(&mut self.register, &mut self.stores, least_lengths(), call);
+        self.calls = self.calls.saturating_add(1);
+        note_all(&[self.calls], &mut self.log)?;
         note::<A, R>(answer, &mut self.log)?;
+        if shows(&answer) {
+            self.shown = self.shown.saturating_add(1);
+        }
         Ok(refused(&answer))
     }
 }

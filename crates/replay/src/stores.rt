@@ -1,12 +1,14 @@
 // The memory of a replay, on the heap.
 ghost use Rattle.std.specs.Prelude.{◌≡◌, ◌≤◌, IfOk, OnOk, vec_len};
-ghost use Rattle.replay.specs.Replay.{Begins, Fits, Longer, Reaches, least, lengths_in};
+ghost use Rattle.state.specs.Memory.{lent_by, tables_of};
+ghost use Rattle.replay.specs.Replay.{Begins, Fits, Longer, Reaches, least, lengths_in, tables_in};
 
 use checks::{BlockRow, PacketRow, PropertyRow, RuleRow};
 use kinds::{Kind, whole_packets};
 use model::{
     Decision, Lent, MAX_BLOCKS, MAX_PROPERTIES, MAX_RULES, MIN_ADDRESS_FRAMES, MIN_PACKET_FRAMES,
 };
+use register::Memory;
 use search::{Entry, Frame};
 use std::alloc::{AllocError, Global};
 
@@ -18,6 +20,22 @@ pub struct Stores<X, Y> {
     pub properties: Vec<PropertyRow<X, Y>>,
     pub packet_frames: Vec<Frame<PacketRow<X, Y>>>,
     pub address_frames: Vec<Frame<X>>,
+}
+
+impl<X, Y> Stores<X, Y> {
+    /// All rows, as memory for calls. What they hold after the loan is not told.
+    pub fn lend(&mut self) -> Memory<'_, X, Y>
+        ensures tables { tables_of result ≡ tables_in self.old }
+        ensures lengths { lent_by result ≡ lengths_in self.old }
+    {
+        Memory {
+            rules: self.rules.as_mut_slice(),
+            blocks: self.blocks.as_mut_slice(),
+            properties: self.properties.as_mut_slice(),
+            packet_frames: self.packet_frames.as_mut_slice(),
+            address_frames: self.address_frames.as_mut_slice(),
+        }
+    }
 }
 
 // Makes the rows at least so many: where there are fewer, `filler` is added.

@@ -3,10 +3,10 @@ ghost use Rattle.std.specs.Prelude.{◌≡◌, ◌<◌, ◌≤◌, true, false, 
 ghost use Rattle.search.specs.List.{Meets};
 
 use crate::judged::{Judged, Place};
-use crate::random::Random;
+use crate::shapes::{OUTCOMES, draw_shape};
+use chance::Random;
 use search::{Entry, Found, Frame, Match, TooShort, Wish, outcome_of, search};
 use std::alloc::{AllocError, Global};
-use std::fmt;
 
 // What was done, and how often an answer was wrong.
 #[derive(Clone, Copy, Default)]
@@ -16,22 +16,6 @@ pub struct Tally {
     pub found: u32,
     pub none: u32,
     pub wrong: u32,
-}
-
-impl fmt::Display for Tally {
-    fn fmt<W: fmt::Write>(&self, f: &mut fmt::Formatter<W>) -> fmt::Result {
-        let Tally {
-            lists,
-            questions,
-            found,
-            none,
-            wrong,
-        } = self;
-        write!(
-            f,
-            "{lists} lists, {questions} questions, {found} found, {none} none, wrong {wrong}"
-        )
-    }
 }
 
 impl Tally {
@@ -45,8 +29,6 @@ impl Tally {
         }
     }
 }
-
-const OUTCOMES: u32 = 3;
 
 const MOST_ENTRIES: u32 = 8;
 
@@ -78,8 +60,8 @@ fn is_wished(wish: Wish, found: Option<Match>) -> bool
 }
 
 fn draw_wish(random: &mut Random) -> Wish {
-    let outcome = random.below(OUTCOMES);
-    match random.below(4) {
+    let outcome = random.below_u32(OUTCOMES);
+    match random.below_u32(4) {
         0 => Wish::Is(Some(outcome)),
         1 => Wish::IsNot(Some(outcome)),
         2 => Wish::Is(None),
@@ -90,12 +72,10 @@ fn draw_wish(random: &mut Random) -> Wish {
 fn draw_list<K: Judged>(heap: Global, random: &mut Random) -> Result<Vec<Entry<K::Row>>, AllocError>
     ensures { IfOk result (λ list. vec_len list ≤ 8) }
 {
-    let count = random.below(MOST_ENTRIES + 1);
+    let count = random.below_u32(MOST_ENTRIES + 1);
+    let shape = draw_shape::<K>(random, count);
     (0..count)
-        .map(|_| Entry {
-            row: K::draw(random, Place::Entry),
-            outcome: random.below(OUTCOMES),
-        })
+        .map(|place| shape.entry::<K>(random, place))
         .collect(heap)
 }
 
@@ -157,8 +137,8 @@ fn ask<K: Judged>(
 }
 
 // Makes so many lists, looks up every small value in each, and asks a few questions of it.
-pub(crate) fn run<K: Judged>(heap: Global, seed: u32, lists: u32) -> Result<Tally, AllocError> {
-    let mut random = Random(seed);
+pub(crate) fn run<K: Judged>(heap: Global, seed: u64, lists: u32) -> Result<Tally, AllocError> {
+    let mut random = Random::new(seed);
     let mut tally = Tally::default();
     let values = K::small_values(heap)?;
     for _ in 0..lists {

@@ -19,4 +19,3 @@ pub(crate) use lent::{ASKED, MORE, draw_lent};
 pub(crate) use names::{NAMES, Name};
 pub(crate) use phases::draw_name;
 pub(crate) use pool::Pool;
-pub(crate) use random::Random;

@@ -1,5 +1,6 @@
 // A run: calls drawn, made and judged one after another.
-use crate::draws::{Draw, Form, Name, Random, draw_lent, draw_name, plain, typed};
+use chance::Random;
+use crate::draws::{Draw, Form, Name, draw_lent, draw_name, plain, typed};
 use crate::judge::{Case, Fixed, PlainAnswer, PlainCall, PlainTree, Wholes};
 use crate::kept::are_same_tables;
 use crate::rows::RowKind;

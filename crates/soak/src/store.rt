@@ -1,5 +1,6 @@
 // The memory that lasts for a run, of which each call is lent a part.
-use crate::draws::{ASKED, Form, MORE, Random};
+use crate::draws::{ASKED, Form, MORE};
+use chance::Random;
 use crate::kept::Tables;
 use checks::{PacketRow, PropertyRow, RuleRow, block_row, property_row, rule_row};
 use kinds::{Kind, Set};
@@ -61,8 +62,8 @@ impl<X: Copy, Y: Copy> Store<X, Y> {
         let rule = junk_rule(form, random);
         let block = block_row(form.addresses.any(random).typed, 1);
         let property = junk_property(form, random);
-        let packet_frame = junk_frame(random, rule.row);
-        let address_frame = junk_frame(random, block.row);
+        let packet_frame = junk_frame(rule.row);
+        let address_frame = junk_frame(block.row);
         Ok(Store {
             tables: Tables {
                 rules: vec![in heap; rule; ASKED.rules + MORE]?,
@@ -82,8 +83,8 @@ impl<X: Copy, Y: Copy> Store<X, Y> {
     ) {
         let packets = junk_rule(form, random).row;
         let addresses = form.addresses.any(random).typed.row();
-        let packet_frame = junk_frame(random, packets);
-        let address_frame = junk_frame(random, addresses);
+        let packet_frame = junk_frame(packets);
+        let address_frame = junk_frame(addresses);
         for frame in self.packet_frames.iter_mut() {
             *frame = packet_frame;
         }

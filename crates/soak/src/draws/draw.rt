@@ -2,7 +2,8 @@
 use crate::draws::both::{Drawn, Known};
 use crate::draws::forms::Form;
 use crate::draws::names::Name;
-use crate::draws::random::Random;
+use crate::draws::random::Drawing;
+use chance::Random;
 use crate::judge::PlainTree;
 use kinds::Kind;
 use model::{Call, Decision, Header, MAX_INTERFACES};

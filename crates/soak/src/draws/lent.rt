@@ -1,5 +1,5 @@
 // How much memory is lent to a call.
-use crate::draws::random::Random;
+use chance::Random;
 use model::{Lent, MAX_BLOCKS, MAX_PROPERTIES, MAX_RULES, MIN_ADDRESS_FRAMES, MIN_PACKET_FRAMES};
 
 // What every call asks for.

@@ -1,6 +1,6 @@
 // How often each call is made: the weights change, so that the tree grows to its limits and shrinks.
 use crate::draws::names::{NAMES, Name};
-use crate::draws::random::Random;
+use chance::Random;
 
 // Calls of one phase. After the last phase comes the first again.
 const LENGTH: usize = 625;

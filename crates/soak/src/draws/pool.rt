@@ -1,6 +1,7 @@
 // What addresses, or rests, are drawn from: a whole, and regions inside it and outside.
 use crate::draws::both::{Known, Member};
-use crate::draws::random::Random;
+use crate::draws::random::Drawing;
+use chance::Random;
 use crate::judge::{Region, value};
 use kinds::Kind;
 use std::alloc::{AllocError, Global};

@@ -1,7 +1,8 @@
 // Properties that may stand.
 use super::{Draw, decision};
 use crate::draws::both::Known;
-use crate::draws::random::Random;
+use crate::draws::random::Drawing;
+use chance::Random;
 use kinds::Kind;
 use model::{Decision, Property};
 

@@ -1,7 +1,8 @@
 // Edits of lists.
 use super::{Draw, DrawnOf, decision};
 use crate::draws::both::Known;
-use crate::draws::random::Random;
+use crate::draws::random::Drawing;
+use chance::Random;
 use kinds::{Kind, Set};
 use model::{Call, Rule};
 

@@ -1,0 +1,9 @@
+use Rattle.std.proofs.Common.{arith}
+use Rattle.search.proofs.Views.{cutters_few}
+use Rattle.search_cost.proofs.cost.explore_counted.Goals as goal
+
+pub explore-requires-clause-room : goal.explore-requires-clause-room
+explore-requires-clause-room g c =
+    let few = cutters_few g.K.Kind.holds g.K.Kind.region c.args.wish c.args.list.now in
+    let room = c.requires in
+    omega arith
