@@ -1,8 +1,13 @@
 -- One truth value, or both.
-use Rattle.std.specs.Prelude.{◌≡◌, Bool, true, false, [], ◌∷◌, ⊤, refl}
+use Rattle.std.specs.Prelude.{◌≡◌, ℕ, ◌<◌, ◌≤◌, Bool, true, false, List, [], ◌∷◌, length, Some, None, Ok, Err, Option, Result, ⊤, refl}
 use mathlib.Core.List.{Memᴰ}
 use Rattle.std.proofs.Math.Bool.{Bool-discrete}
 use Rattle.kinds.specs.Words.{Inhabited, Finite, Decided}
+use Rattle.search.specs.List.{Says, Meets}
+use Rattle.search.specs.declared.answer.TooShort.{TooShort}
+use Rattle.search.specs.declared.list.Entry.{Entry}
+use Rattle.search.specs.declared.list.Match.{Match}
+use Rattle.search.specs.declared.list.Wish.{Wish}
 use Rattle.examples.specs.declared.flag.Flag.{Flag}
 use Rattle.examples.specs.declared.flag.Flag.TheVariants.{On, Off, Either}
 
@@ -28,3 +33,14 @@ pub flag_decided : (x : Flag) → Decided (flag_holds x)
 flag_decided On v = Bool-discrete v true
 flag_decided Off v = Bool-discrete v false
 flag_decided Either v = yes tt
+
+-- v has an outcome as wished in a list of flags
+abbrev pub HasWished : List (Entry Flag) → Wish → Bool → Type 0
+HasWished es wish v = (m : Option Match) × Says flag_holds es v m × Meets wish m
+
+-- too short exactly where there are no more frames than entries; else a value with an outcome as wished, or nothing exactly
+-- where neither has one
+abbrev pub FlagsSearched : List (Entry Flag) → Wish → ℕ → Result (Option Bool) TooShort → Type 0
+FlagsSearched es wish frames (Err e) = frames ≤ length es
+FlagsSearched es wish frames (Ok None) = (length es < frames) × ((v : Bool) → HasWished es wish v → ⊥)
+FlagsSearched es wish frames (Ok (Some v)) = (length es < frames) × HasWished es wish v

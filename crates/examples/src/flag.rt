@@ -1,8 +1,9 @@
 // A field kind made for show: a new kind owes its meaning, and nothing of the search.
-ghost use Rattle.std.specs.Prelude.{refl, Some};
-ghost use Rattle.examples.specs.Flag.{flag_holds, flag_some, flag_values, flag_decided};
+ghost use Rattle.std.specs.Prelude.{refl, Some, length};
+ghost use Rattle.examples.specs.Flag.{flag_holds, flag_some, flag_values, flag_decided, FlagsSearched};
 
 use kinds::Kind;
+use search::{Entry, Frame, TooShort, Wish, search};
 
 /// A region of the two truth values: one of them, or both.
 #[derive(Clone, Copy)]
@@ -71,5 +72,21 @@ impl Kind for Flag {
 
     fn read(row: Flag) -> Option<Flag> {
         Some(row)
+    }
+}
+
+/// A truth value whose outcome in a list of flags is as wished; nothing exactly where neither has
+/// such an outcome. The search is the one that serves packets and addresses, and knows of flags
+/// their meaning alone.
+pub fn search_flags(
+    list: &[Entry<Flag>],
+    wish: Wish,
+    frames: &mut [Frame<Flag>],
+) -> Result<Option<bool>, TooShort>
+    ensures { FlagsSearched list.now wish (length frames.old) result }
+{
+    match search(list, Flag::Either, wish, frames)? {
+        Some(found) => Ok(Some(found.value)),
+        None => Ok(None),
     }
 }

@@ -4,5 +4,5 @@
 mod flag;
 mod statement;
 
-pub use flag::Flag;
+pub use flag::{Flag, search_flags};
 pub use statement::{examples_hold, samples_hold};
