@@ -3,6 +3,7 @@ use super::*;
 use forms::{LongRest, Prefix};
 use model::{Call, Decision};
 use spelling::{NumberFault, RegionFault};
+use std::fmt::InlineText;
 
 fn call(line: &[u8]) -> Option<LongCall> {
     match read_line(line) {
@@ -193,4 +194,17 @@ fn the_first_faulty_field_is_named(rt: HostRuntime) {
     assert!(rt; fault(turned) == at(Cause::Region(RegionFault::LoAboveHi), 8, 33));
     let protocol = b"Q,d,8,7,0.0.0.0/0,10.0.0.0/8,1-2,3-4,5-256";
     assert!(rt; fault(protocol) == at(large, 9, 37));
+}
+
+#[test]
+fn a_fault_is_told_with_its_place(rt: HostRuntime) {
+    let told = InlineText::<64>::of(LineFault {
+        cause: Cause::Region(RegionFault::HostBits),
+        field: 3,
+        byte: 5,
+    });
+    assert_eq!(rt;
+        told.as_str(),
+        "bit set past the length of the prefix, in field 3 at byte 5"
+    );
 }

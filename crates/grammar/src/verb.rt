@@ -46,7 +46,7 @@ static PROPERTY: [Form; 8] = [
 ];
 
 impl Verb {
-    /// The verb of a letter.
+    /// The verb of a letter; nothing where it is none of the thirteen.
     pub fn of_letter(letter: char) -> Option<Verb>
         ensures { MatchOption result ((v : Verb) → letter_of v ≡ letter → ⊥) (λ v. letter_of v ≡ letter) }
     {

@@ -28,7 +28,7 @@ fn decision_of(byte: u8) -> Option<Decision>
     }
 }
 
-/// One letter: `a` accepts, `d` discards.
+/// The decision of a text of one letter: `a` accepts, `d` discards.
 pub fn read_decision(text: &[u8]) -> Result<Decision, NoDecision>
     ensures { Only (ReadsDecision text.now) result }
 {
@@ -53,7 +53,7 @@ fn letter_of(decision: Decision) -> u8
     }
 }
 
-/// Writes the letter of a decision.
+/// Writes the letter of a decision, as [`put_bytes`] does.
 pub fn put_decision(buf: &mut [u8], at: usize, decision: Decision) -> Result<usize, Full>
     ensures written { Puts buf.old buf.new at (decision_text decision) result }
     ensures short { length (decision_text decision) ≤ 1 }

@@ -3,6 +3,7 @@ use super::*;
 use forms::{Prefix, Range};
 use kinds::Set;
 use model::Decision;
+use std::fmt::InlineText;
 use std::test::Fail;
 
 fn form(byte: usize) -> Fault {
@@ -83,16 +84,22 @@ fn sets_and_decisions(rt: HostRuntime) {
 }
 
 #[test]
+fn faults_are_told(rt: HostRuntime) {
+    let told = InlineText::<64>::of(number(NumberFault::TooLarge, 3));
+    assert_eq!(rt; told.as_str(), "number above its bound, at byte 3");
+    let told = InlineText::<64>::of(NoDecision { byte: 1 });
+    assert_eq!(rt; told.as_str(), "neither `a` nor `d`, at byte 1");
+}
+
+#[test]
 fn fields_are_written(rt: HostRuntime) -> Result<(), Fail> {
     let mut buf = [b'_'; 40];
-    let end = put_number(&mut buf, 1, 70).ok().ok_or("no room")?;
-    let end = put_address(&mut buf, end, 167772415).ok().ok_or("no room")?;
+    let end = put_number(&mut buf, 1, 70)?;
+    let end = put_address(&mut buf, end, 167772415)?;
     let net = Prefix::new(167837696, 16).ok_or("no prefix")?;
-    let end = put_prefix(&mut buf, end, net).ok().ok_or("no room")?;
-    let end = put_set(&mut buf, end, Set::up_to(3)).ok().ok_or("no room")?;
-    let end = put_decision(&mut buf, end, Decision::Accept)
-        .ok()
-        .ok_or("no room")?;
+    let end = put_prefix(&mut buf, end, net)?;
+    let end = put_set(&mut buf, end, Set::up_to(3))?;
+    let end = put_decision(&mut buf, end, Decision::Accept)?;
     assert!(rt; end == 33);
     assert!(rt; buf.as_slice() == b"_7010.0.0.25510.1.0.0/160000000fa_______".as_slice());
     let ports = Range::new(80, 443).ok_or("no range")?;
