@@ -6,9 +6,8 @@ use Rattle.kinds.specs.Set.{set_holds}
 use Rattle.kinds.specs.Words.{Exactly}
 use Rattle.kinds.specs.declared.pair.Pair.{Pair}
 use Rattle.kinds.specs.declared.set.Set.{Set}
-use Rattle.search.specs.Answer.{Witness, Answered}
+use Rattle.search.specs.Answer.{Witness, Answered, Hopeless}
 use Rattle.search.specs.List.{Says, outcome}
-use Rattle.search.specs.Answer.{Hopeless}
 use Rattle.search.proofs.Walks.{matched}
 use Rattle.search.specs.declared.answer.Found.{Found}
 use Rattle.kinds.specs.declared.set.SetRow.{SetRow}
@@ -22,14 +21,10 @@ use Rattle.model.specs.declared.rules.Decision.{Decision}
 use Rattle.model.specs.declared.rules.Packet.{Packet}
 use Rattle.model.specs.declared.rules.Property.{Property}
 use Rattle.model.specs.declared.rules.Rule.{Rule}
-use Rattle.checks.specs.Breaks.{decided_against, BreaksList, BreakFound, UnmatchedFound}
+use Rattle.checks.specs.Breaks.{packet_in, decided_against, BreaksList, BreakFound, UnmatchedFound}
 use Rattle.checks.specs.Rows.{rule_entry}
 use Rattle.checks.proofs.Lists.{Holds, Rows, says_decided, decided_says, says_unmatched, unmatched_says}
 
--- the packet that a search has found
-abbrev pub packet_in : {V W : Type 0} → Option (Found (Pair ℕ (Pair V (Pair V W)))) → Option (Packet V W)
-packet_in None = None
-packet_in (Some f) = Some (packet_of f.value)
 
 module _ {A R V W X Y : Type 0} (addr : A → V → Type 0) (rests : R → W → Type 0) (pa : A → X) (pr : R → Y) (ra : X → Option A) (rr : Y → Option R)
     (reads-a : (x : A) → ra (pa x) ≡ Some x) (reads-r : (x : R) → rr (pr x) ≡ Some x) where

@@ -1,13 +1,20 @@
 -- Packets of a property that a list decides against its sort.
 use Rattle.std.specs.Prelude.{◌≡◌, ℕ, ◌<◌, List, Some, None, Option}
 use Rattle.model.specs.Limits.{max_interfaces}
-use Rattle.model.specs.Packets.{Decided, InWhole, Unmatched, Complete}
+use Rattle.kinds.specs.declared.pair.Pair.{Pair}
+use Rattle.search.specs.declared.answer.Found.{Found}
+use Rattle.model.specs.Packets.{Decided, InWhole, Unmatched, Complete, packet_of}
 use Rattle.model.specs.Tree.{Tree}
 use Rattle.model.specs.declared.rules.Decision.{Decision}
 use Rattle.model.specs.declared.rules.Decision.TheVariants.{Accept, Discard}
 use Rattle.model.specs.declared.rules.Packet.{Packet}
 use Rattle.model.specs.declared.rules.Property.{Property}
 use Rattle.model.specs.declared.rules.Rule.{Rule}
+
+-- the packet that a search found
+abbrev pub packet_in : {V W : Type 0} → Option (Found (Pair ℕ (Pair V (Pair V W)))) → Option (Packet V W)
+packet_in None = None
+packet_in (Some f) = Some (packet_of f.value)
 
 -- the decision that breaks a property of this sort
 abbrev pub decided_against : Decision → Decision

@@ -9,7 +9,7 @@ use crate::rows::BlockRow;
 use kinds::Kind;
 use search::{Frame, Match, Wish, find, outcome_of};
 
-// The domain of an address: that of the block that holds it, or 0.
+/// The domain of an address: that of the block that holds it, or 0.
 pub fn domain_of<A: Kind, R: Kind>(blocks: &[BlockRow<A::Row>], address: A::Value) -> u32
     ensures { (t : Tree A R) → blocks.now ≡ map (block_entry A.Kind.plain) t.blocks → Of A.Kind.holds R.Kind.holds t address result }
 {
@@ -31,8 +31,8 @@ fn home_of(domain: u32) -> Option<u32>
 }
 
 /// An address of the region that is not of the domain; nothing exactly when there is none.
-//
-// It asks of one address first, since a number that no block can have is that of no domain.
+///
+/// It asks of one address first, since a number that no block can have is that of no domain.
 pub fn find_astray<A: Kind, R: Kind>(
     blocks: &[BlockRow<A::Row>],
     region: A,

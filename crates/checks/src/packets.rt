@@ -1,14 +1,21 @@
 // What a list of rules does with the packets of a property.
 ghost use Rattle.std.specs.Prelude.{◌≡◌, ◌<◌, List, length};
 ghost use Rattle.checks.specs.Rows.{RulesAre};
-ghost use Rattle.checks.specs.Breaks.{BreakFound, UnmatchedFound, decided_against};
+ghost use Rattle.checks.specs.Breaks.{BreakFound, UnmatchedFound, decided_against, packet_in};
 ghost use Rattle.model.specs.Tree.{Tree};
 ghost use Rattle.model.specs.declared.rules.Rule.{Rule as RuleOf};
 
 use crate::rows::{PacketRow, RuleRow};
 use kinds::{Kind, Set, packet_region, whole_packets};
-use model::{Decision, Packet, Property};
-use search::{Frame, Wish, find};
+use model::{Decision, Packet, PacketValue, Property};
+use search::{Found, Frame, Wish, find};
+
+// The packet that a search found.
+fn packet_in<V: Copy, W: Copy>(found: Option<Found<PacketValue<V, W>>>) -> Option<Packet<V, W>>
+    ensures { result ≡ packet_in found }
+{
+    found.map(|found| found.value.into())
+}
 
 // The decision that breaks a property of this sort.
 fn against(sort: Decision) -> Decision
@@ -39,7 +46,7 @@ pub fn find_break<A: Kind, R: Kind>(
         property.rest,
     );
     let wish = Wish::Is(Some(against(property.sort).into()));
-    find(rules, target, wish, frames).map(|found| found.value.into())
+    packet_in(find(rules, target, wish, frames))
 }
 
 /// A packet of the whole that no rule matches; nothing exactly when the list is complete.
@@ -53,5 +60,5 @@ pub fn find_unmatched<A: Kind, R: Kind>(
     ensures { (t : Tree A R) (rs : List (RuleOf A R)) → t.addresses ≡ addresses → t.rests ≡ rests → RulesAre A.Kind R.Kind rules.now rs → UnmatchedFound A.Kind.holds R.Kind.holds t rs result }
 {
     let whole = whole_packets(addresses, rests);
-    find(rules, whole, Wish::Is(None), frames).map(|found| found.value.into())
+    packet_in(find(rules, whole, Wish::Is(None), frames))
 }

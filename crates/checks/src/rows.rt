@@ -9,16 +9,16 @@ use search::Entry;
 // Rows are made by functions: `From` is refused for those of rules and blocks, which are types of
 // another crate, and all are made in one way.
 
-// The row of a packet region; `X` and `Y` are the rows of addresses and of rests.
+/// The row of a packet region; `X` and `Y` are the rows of addresses and of rests.
 pub type PacketRow<X, Y> = Pair<SetRow, Pair<X, Pair<X, Y>>>;
 
-// A rule in the table of rules; its outcome is the number of its decision.
+/// A rule in the table of rules; its outcome is the number of its decision.
 pub type RuleRow<X, Y> = Entry<PacketRow<X, Y>>;
 
-// A block in the table of blocks; its outcome is its domain.
+/// A block in the table of blocks; its outcome is its domain.
 pub type BlockRow<X> = Entry<X>;
 
-// A property in the table of properties; `X` and `Y` are the rows of addresses and of rests.
+/// A property in the table of properties; `X` and `Y` are the rows of addresses and of rests.
 #[derive(Clone, Copy)]
 pub struct PropertyRow<X, Y> {
     pub sort: Decision,
@@ -29,6 +29,7 @@ pub struct PropertyRow<X, Y> {
     pub rest: Y,
 }
 
+/// The row of a rule.
 pub fn rule_row<A: Kind, R: Kind>(rule: Rule<A, R>) -> RuleRow<A::Row, R::Row>
     ensures { result ≡ rule_entry A.Kind.plain R.Kind.plain rule }
 {
@@ -39,6 +40,7 @@ pub fn rule_row<A: Kind, R: Kind>(rule: Rule<A, R>) -> RuleRow<A::Row, R::Row>
     }
 }
 
+/// The row of a block of a domain.
 pub fn block_row<A: Kind>(region: A, domain: u32) -> BlockRow<A::Row>
     ensures { result ≡ block_entry A.Kind.plain (record { region = region; domain = domain }) }
 {
@@ -48,6 +50,7 @@ pub fn block_row<A: Kind>(region: A, domain: u32) -> BlockRow<A::Row>
     }
 }
 
+/// The row of a property.
 pub fn property_row<A: Kind, R: Kind>(property: Property<A, R>) -> PropertyRow<A::Row, R::Row>
     ensures { result ≡ property_row A.Kind.plain R.Kind.plain property }
 {
@@ -61,7 +64,7 @@ pub fn property_row<A: Kind, R: Kind>(property: Property<A, R>) -> PropertyRow<A
     }
 }
 
-// The property of a row; nothing where one of its regions reads as nothing.
+/// The property of a row; nothing where one of its regions reads as nothing.
 pub fn read_property<A: Kind, R: Kind>(row: PropertyRow<A::Row, R::Row>) -> Option<Property<A, R>>
     ensures { result ≡ property_of A.Kind.region R.Kind.region row }
 {

@@ -125,7 +125,7 @@ fn check_place<A: Kind, R: Kind>(
     state.check_regions_inside(rule.source, rule.destination, rule.rest)
 }
 
-// Inserts a rule in the list of a firewall.
+/// Inserts a rule in the list of a firewall.
 pub fn place<A: Kind, R: Kind>(
     state: &mut State<A, R>,
     memory: &mut Memory<'_, A::Row, R::Row>,
@@ -186,7 +186,7 @@ fn check_alter<A: Kind, R: Kind>(
     state.check_regions_inside(rule.source, rule.destination, rule.rest)
 }
 
-// Replaces a rule in the list of a firewall.
+/// Replaces a rule in the list of a firewall.
 pub fn alter<A: Kind, R: Kind>(
     state: &State<A, R>,
     memory: &mut Memory<'_, A::Row, R::Row>,
@@ -239,7 +239,7 @@ fn check_lift<A: Kind, R: Kind>(
     )
 }
 
-// Removes a rule from the list of a firewall.
+/// Removes a rule from the list of a firewall.
 pub fn lift<A: Kind, R: Kind>(
     state: &mut State<A, R>,
     memory: &mut Memory<'_, A::Row, R::Row>,

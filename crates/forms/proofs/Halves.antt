@@ -4,7 +4,8 @@ use Rattle.std.proofs.Common.{sym, ap, subst, ◌∙◌, inl, inr, add-one, arit
 use Rattle.std.proofs.Math.Decide.{ℕ_discrete}
 use Rattle.std.proofs.Math.Nat.{mul-mod_left, pow-succ'}
 use Rattle.std.proofs.lemmas.Nat.{pow_pos, shr-shr, shl-shr, shr_split, pow-add, div_below, mul-le, pow_below}
-use Rattle.kinds.specs.Words.{Disjoint, Inside, Common, Parted}
+use Rattle.kinds.specs.Words.{Disjoint, Inside, Share, Common, Parted}
+use Rattle.kinds.proofs.Relations.{not_inside_parted}
 use Rattle.forms.specs.FirstBits.{In}
 
 pub coarser : (a b i j : ℕ) → j ≤ i → a / 2 ^ j ≡ b / 2 ^ j → a / 2 ^ i ≡ b / 2 ^ i
@@ -90,3 +91,9 @@ block_fits x s le fits clean =
 
 pub half_fits : (x s t : ℕ) → s ≤ 32 → t < s → x < 2 ^ 32 → x % 2 ^ s ≡ 0 → x + 2 ^ t < 2 ^ 32
 half_fits x s t le lt fits clean = let room = block_fits x s le fits clean in let less = pow_below t s lt in omega arith
+
+-- a longer prefix that lies in a shorter one crosses it
+pub crossing_in : (x y s t j : ℕ) → s ≡ suc t → j ≤ t → x % 2 ^ s ≡ 0 → In x s y → Share (In x s) (In y j) × (Inside (In x s) (In y j) → ⊥)
+crossing_in x y s t j e le clean h =
+    let parts = parted_at x y s t j (2 ^ t) e refl le clean h in
+    ((y, h, refl), not_inside_parted (In x s) (In y j) (x, refl) (x + 2 ^ t, refl) parts)

@@ -3,23 +3,24 @@ use forms::{LongRest, Prefix};
 use kinds::Pair;
 use model::Call;
 
-// The values of the rest of a Long packet: source port, destination port, protocol.
+/// The values of the rest of a Long packet: source port, destination port, protocol.
 pub type LongRestValue = Pair<u32, Pair<u32, u32>>;
 
-// A call of a register of the Long form.
+/// A call of a register of the Long form.
 pub type LongCall = Call<Prefix, LongRest, u32, LongRestValue>;
 
-// What a line says.
+/// What a line says.
 #[derive(Clone, Copy)]
 pub enum Line {
-    // The first line of a listing.
+    /// The first line of a listing.
     Heading,
+    /// A call to the register.
     Call(LongCall),
-    // A request for a line of the listing.
+    /// A request for a line of the listing.
     List { number: usize },
 }
 
-// What the letter of a line names.
+/// What the letter of a line names.
 #[derive(Clone, Copy, PartialEq, Debug)]
 pub enum Verb {
     Heading,

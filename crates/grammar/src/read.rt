@@ -48,7 +48,7 @@ fn begin(line: &[u8]) -> Option<(Verb, Option<Part<'_>>)>
     Some((first.verb()?, behind))
 }
 
-// What a line's bytes mean.
+/// What a line's bytes mean.
 pub fn read_line(line: &[u8]) -> Result<Line, LineFault>
     ensures { Only (ReadsLine line.now) result }
 {

@@ -12,6 +12,7 @@ use forms::{LongRest, Prefix};
 use model::{Call, Decision, Header, Property, Rule};
 use tables::FixedVec;
 
+/// The values of a line's fields, in order.
 pub type Values = FixedVec<Value, MAX_FIELDS>;
 
 // Puts values behind the others.
@@ -151,7 +152,7 @@ fn call_values(call: &LongCall) -> Values
 }
 
 impl Line {
-    // The values of the fields behind the letter.
+    /// The values of the fields behind the letter.
     pub fn values(&self) -> Values
         ensures values { used result ≡ values_of self.now }
         ensures types { AllByRecursion InType (values_of self.now) }
@@ -163,7 +164,7 @@ impl Line {
         }
     }
 
-    // The letter that the line begins with.
+    /// The letter that the line begins with.
     pub fn letter(&self) -> u8
         ensures { result ≡ letter (verb_of self.now) }
     {

@@ -46,7 +46,7 @@ static PROPERTY: [Form; 8] = [
 ];
 
 impl Verb {
-    // The verb of a letter.
+    /// The verb of a letter.
     pub fn of_letter(letter: char) -> Option<Verb>
         ensures { MatchOption result ((v : Verb) → letter_of v ≡ letter → ⊥) (λ v. letter_of v ≡ letter) }
     {
@@ -68,7 +68,7 @@ impl Verb {
         }
     }
 
-    // What the fields behind the letter have to be.
+    /// What the fields behind the letter have to be.
     pub fn forms(self) -> &'static [Form]
         ensures all { result.now ≡ forms self }
         ensures few { length result.now ≤ MAX_FIELDS }

@@ -26,7 +26,7 @@ fn put_value(buf: &mut [u8], at: usize, value: &Value) -> Result<usize, Full>
     }
 }
 
-// Writes a word and values, a comma before each; answers where the text ends.
+/// Writes a word and values, a comma before each; answers where the text ends.
 pub fn put_phrase(buf: &mut [u8], at: usize, word: &[u8], values: &[Value]) -> Result<usize, Full>
     ensures written { Puts buf.old buf.new at (phrase word.now values.now) result }
     ensures short { OnOk result (length (phrase word.now values.now) ≤ length word.now + longest values.now) }
@@ -40,7 +40,7 @@ pub fn put_phrase(buf: &mut [u8], at: usize, word: &[u8], values: &[Value]) -> R
     Ok(end)
 }
 
-// Writes a line; with a line feed behind it, it still is no longer than a line may be.
+/// Writes a line; with a line feed behind it, it still is no longer than a line may be.
 pub fn put_line(buf: &mut [u8], at: usize, line: &Line) -> Result<usize, Full>
     ensures written { Puts buf.old buf.new at (line_text line.now) result }
     ensures short { length (line_text line.now) < max_line }

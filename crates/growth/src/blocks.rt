@@ -72,7 +72,7 @@ fn check_placed<A: Kind, R: Kind>(
     }
 }
 
-// Gives a block of addresses to a domain.
+/// Gives a block of addresses to a domain.
 pub fn give<A: Kind, R: Kind>(
     state: &mut State<A, R>,
     memory: &mut Memory<'_, A::Row, R::Row>,
@@ -105,7 +105,7 @@ pub fn give<A: Kind, R: Kind>(
     }
 }
 
-// Takes a block from its domain.
+/// Takes a block from its domain.
 pub fn take<A: Kind, R: Kind>(
     state: &mut State<A, R>,
     memory: &mut Memory<'_, A::Row, R::Row>,

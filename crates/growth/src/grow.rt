@@ -59,8 +59,8 @@ fn catch_all<A: Kind, R: Kind>(state: &State<A, R>, decision: Decision) -> Rule<
     }
 }
 
-// Hangs the next firewall below a domain, with one rule for everything, and the next domain
-// below that; the numbers of the two.
+/// Hangs the next firewall below a domain, with one rule for everything, and the next domain
+/// below that; the numbers of the two.
 pub fn attach<A: Kind, R: Kind>(
     state: &mut State<A, R>,
     memory: &mut Memory<'_, A::Row, R::Row>,
@@ -85,7 +85,7 @@ pub fn attach<A: Kind, R: Kind>(
     Ok(made)
 }
 
-// Hangs the next domain below a firewall.
+/// Hangs the next domain below a firewall.
 pub fn branch<A: Kind, R: Kind>(
     state: &mut State<A, R>,
     memory: &Memory<'_, A::Row, R::Row>,

@@ -4,14 +4,14 @@ use Rattle.std.proofs.Common.{sym, ap, ap₂, ◌∙◌, inl, inr, arith, pow_mo
 use Rattle.std.proofs.Math.Nat.{div-eq_of_lt, zero-div, pow-succ'}
 use Rattle.std.proofs.Math.Decide.{dec_lt}
 use Rattle.std.specs.Int.Bits.{bit_and}
-use Rattle.std.proofs.lemmas.Nat.{and_shr, and_mod, and_comm, and_le_l, xor_shr, xor_mod, pow_pos, pow-add, pow_below, shr_high, shl-shr}
+use Rattle.std.proofs.lemmas.Nat.{and_shr, and_mod, and_comm, and_le_l, xor_shr, xor_mod, xor_lt, pow_pos, pow-add, pow_below, shr_high, shl-shr}
 use Rattle.std.proofs.lemmas.Bool.{cases_lt, cases_order}
 use Rattle.kinds.specs.Made.{dec_both}
 use Rattle.kinds.specs.Set.{set_of}
 use Rattle.kinds.specs.declared.set.Set.{Set}
 use Rattle.kinds.proofs.Provided.{provided_cases}
 use Rattle.kinds.specs.Masks.{Bit, top_bit, some_bit}
-use Rattle.kinds.specs.Words.{Disjoint, Inside, Common, Parted, Exactly}
+use Rattle.kinds.specs.Words.{Disjoint, Inside, Share, Common, Parted, Exactly}
 
 bit_cases : (n : ℕ) → (n % 2 ≡ 0) ⊎ (n % 2 ≡ 1)
 bit_cases n = elim (cases_lt (n % 2) 1) [ inl h ↦ inl (omega arith) | inr h ↦ inr (omega arith) ]
@@ -76,11 +76,17 @@ parted_bits a b few some more =
       one = inl ((shared.0, shared.1, common.right shared.0 shared.1), others_out a b);
     }
 
+-- how a set lies to another, by the bits that they share and those that the other lacks
+pub apart_bits : (a b : ℕ) → bit_and a b ≡ 0 → Disjoint (Bit a) (Bit b)
+apart_bits a b e v h k = no_bit_of_zero (bit_and a b) v e ((and_common a b).all v h k)
+
+pub inside_bits : (a b : ℕ) → others a b ≡ 0 → Inside (Bit a) (Bit b)
+inside_bits a b e v h = elim (bit_cases (b / 2 ^ v)) [ inl z ↦ absurd (no_bit_of_zero (others a b) v e (in_others a b v h z)) | inr o ↦ o ]
+
 -- where split answers nothing
 pub unsplit_bits : (a b : ℕ) → (bit_and a b ≡ 0) ⊎ (others a b ≡ 0) → Disjoint (Bit a) (Bit b) ⊎ Inside (Bit a) (Bit b)
-unsplit_bits a b (inl e) = inl (λ v h k. no_bit_of_zero (bit_and a b) v e ((and_common a b).all v h k))
-unsplit_bits a b (inr e) =
-    inr (λ v h. elim (bit_cases (b / 2 ^ v)) [ inl z ↦ absurd (no_bit_of_zero (others a b) v e (in_others a b v h z)) | inr o ↦ o ])
+unsplit_bits a b (inl e) = inl (apart_bits a b e)
+unsplit_bits a b (inr e) = inr (inside_bits a b e)
 
 pub meet_bits : (a b : ℕ) → a < 2 ^ 32 → MatchOption (set_of (bit_and a b)) (Disjoint (Bit a) (Bit b)) (λ m. Common (Bit a) (Bit b) (Bit m.mask))
 meet_bits a b few =
@@ -134,3 +140,13 @@ single_bit k = (
   ],
   λ v e. top_bit (2 ^ k) v (omega (arith, ap (λ n. 2 ^ n) e)) (let some = pow_pos v in omega (arith, ap (λ n. 2 ^ n) e)),
 )
+
+pub crossing_bits : (a b : ℕ) → a < 2 ^ 32 → 0 < bit_and a b → 0 < others a b → Share (Bit a) (Bit b) × (Inside (Bit a) (Bit b) → ⊥)
+crossing_bits a b few some more =
+    let common = and_common a b in
+    let shared = some_bit (bit_and a b) some (omega (arith, and_le_l a b)) in
+    let other = some_bit (others a b) more (xor_lt 32 _ _ few (omega (arith, and_le_l a b))) in
+    (
+      (shared.0, common.left shared.0 shared.1, common.right shared.0 shared.1),
+      λ i. others_out a b other.0 other.1 (i other.0 (others_in a b other.0 other.1)),
+    )

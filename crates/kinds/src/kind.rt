@@ -5,12 +5,13 @@ ghost use Rattle.kinds.specs.Related.{Related};
 
 use crate::relation::Relation;
 
-// A field kind, implemented by the type of its regions. No region is empty, and each has finitely
-// many values; a kind is known by nothing but which values its regions hold.
+/// A field kind, implemented by the type of its regions. No region is empty, and each has finitely
+/// many values; a kind is known by nothing but which values its regions hold.
 pub trait Kind: Copy {
+    /// What a region holds.
     type Value: Copy;
 
-    // How a region lies in a table: plain data, which is read to have the region again.
+    /// How a region lies in a table: plain data, which is read to have the region again.
     type Row: Copy;
 
     // The meaning: which values a region holds.
@@ -21,20 +22,20 @@ pub trait Kind: Copy {
 
     ghost region: { Self.Row → Option Self };
 
-    // Whether the region holds the value.
+    /// Whether the region holds the value.
     fn has(self, value: Self::Value) -> bool
         ensures { Decides result (holds self value) };
 
-    // The region of the common values; nothing exactly when there are none.
+    /// The region of the common values; nothing exactly when there are none.
     fn meet(self, other: Self) -> Option<Self>
         ensures { MeetOf holds (holds self) (holds other) result };
 
-    // Cuts this region along the other; nothing exactly when there is no common value, or no other
-    // one in this region. Which part comes first is left open.
+    /// Cuts this region along the other; nothing exactly when there is no common value, or no other
+    /// one in this region. Which part comes first is left open.
     fn split(self, other: Self) -> Option<(Self, Self)>
         ensures { SplitOf holds (holds self) (holds other) result };
 
-    // Some value that the region holds.
+    /// Some value that the region holds.
     fn pick(self) -> Self::Value
         ensures { holds self result };
 
@@ -75,9 +76,11 @@ pub trait Kind: Copy {
         self
     }
 
+    /// The region as it lies in a table.
     fn row(self) -> Self::Row
         ensures { result ≡ plain self };
 
+    /// The region that a row stands for; nothing where it stands for none.
     fn read(row: Self::Row) -> Option<Self>
         ensures { result ≡ region row };
 

@@ -21,7 +21,7 @@ impl Console {
         }
     }
 
-    // All addresses, ports and protocols, and domain 0 alone. The tables may hold anything.
+    /// All addresses, ports and protocols, and domain 0 alone. The tables may hold anything.
     pub fn new() -> Console
         ensures { (x : Prefix) × (y : LongRest) × LongWholes x y × ((s : LongStored) → Tells address_kind rest_kind x y [] result.register s) }
     {

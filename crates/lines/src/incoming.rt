@@ -10,7 +10,7 @@ use crate::intake::Intake;
 use tables::FixedVec;
 
 impl Intake {
-    // No byte has come.
+    /// No byte has come.
     pub fn new() -> Intake
         ensures { Holds result [] }
     {
@@ -19,14 +19,14 @@ impl Intake {
         }
     }
 
-    // The next byte of the line comes; one that no line can have is let go.
+    /// The next byte of the line comes; one that no line can have is let go.
     pub fn push(&mut self, byte: u8)
         ensures { (text : List ℕ) → Holds self.old text → Holds self.new (text ++ byte ∷ []) }
     {
         let _room = self.front.push(byte);
     }
 
-    // What means the same as the line that has come.
+    /// What means the same as the line that has come.
     pub fn line(&self) -> &[u8]
         ensures front { result.now ≡ used self.now.front }
         ensures means { (text : List ℕ) (m : Result Line LineFault) → Holds self.now text → ReadsLine result.now m → ReadsLine text m }
@@ -34,7 +34,7 @@ impl Intake {
         self.front.as_slice()
     }
 
-    // Whether no byte has come.
+    /// Whether no byte has come.
     pub fn is_empty(&self) -> bool
         ensures { (text : List ℕ) → Holds self.now text → Decides result (text ≡ []) }
     {

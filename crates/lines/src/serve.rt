@@ -12,7 +12,7 @@ use model::Answer;
 use register::Memory;
 use replies::{MIN_ANSWER, Reply, put_reply};
 
-// The memory that is lent to a console.
+/// The memory that is lent to a console.
 pub type LongMemory<'a> = Memory<'a, <Prefix as Kind>::Row, <LongRest as Kind>::Row>;
 
 impl Console {
@@ -41,8 +41,8 @@ impl Console {
         }
     }
 
-    // Does what the line says; the buffer then begins with the reply, which ends with a line feed, and
-    // the reply's length is answered. Where a slice or the buffer is too short, it does nothing: 0.
+    /// Does what the line says; the buffer then begins with the reply, which ends with a line feed, and
+    /// the reply's length is answered. Where a slice or the buffer is too short, it does nothing: 0.
     pub fn answer(&mut self, line: &[u8], memory: &mut LongMemory<'_>, buf: &mut [u8]) -> usize
         ensures serves { Serves self.old (tables_of memory.old) (lent_by memory.old) line.now buf.old result self.new (tables_of memory.new) buf.new }
         ensures same { SameMemory memory.old memory.new }

@@ -14,8 +14,8 @@ use model::Call;
 use state::{Memory, State};
 use tables::used_rows;
 
-// The call of a line of the listing, counted from 0: domains from 1 up, blocks, each firewall's rules,
-// properties. Nothing past its end.
+/// The call of a line of the listing, counted from 0: domains from 1 up, blocks, each firewall's rules,
+/// properties. Nothing past its end.
 pub fn listed<A: Kind, R: Kind>(
     state: &State<A, R>,
     memory: &Memory<'_, A::Row, R::Row>,

@@ -13,7 +13,7 @@ pub mod read;
 // There are no more firewalls than domains other than 0.
 pub(crate) const ROWS: usize = MAX_DOMAINS - 1;
 
-// How long the list of each firewall is.
+/// How long the list of each firewall is.
 #[derive(Drop)]
 pub struct ListTable {
     lengths: FixedVec<usize, ROWS>,

@@ -5,6 +5,7 @@ ghost use Rattle.model.specs.Packets.{decision_number, entering, packet_of, valu
 
 use kinds::{Pair, Set};
 
+/// What a rule says of a packet, and a property of its packets.
 #[derive(Clone, Copy, PartialEq, Debug)]
 pub enum Decision {
     Accept,
@@ -23,7 +24,7 @@ impl From<Decision> for u32 {
     }
 }
 
-// A rule of a firewall: the packets that it matches, and what becomes of them.
+/// A rule of a firewall: the packets that it matches, and what becomes of them.
 #[derive(Clone, Copy)]
 pub struct Rule<A, R> {
     pub interfaces: Set,
@@ -33,8 +34,8 @@ pub struct Rule<A, R> {
     pub decision: Decision,
 }
 
-// A packet as it comes to a firewall, by one of its interfaces.
-#[derive(Clone, Copy)]
+/// A packet as it comes to a firewall, by one of its interfaces.
+#[derive(Clone, Copy, Debug)]
 pub struct Packet<V, W> {
     pub interface: u8,
     pub source: V,
@@ -42,7 +43,7 @@ pub struct Packet<V, W> {
     pub rest: W,
 }
 
-// A packet as the search has it: its parts side by side.
+/// A packet as the search has it: its parts side by side.
 pub type PacketValue<V, W> = Pair<u8, Pair<V, Pair<V, W>>>;
 
 impl<V, W> From<PacketValue<V, W>> for Packet<V, W> {
@@ -75,7 +76,7 @@ impl<V, W> From<Packet<V, W>> for PacketValue<V, W> {
     }
 }
 
-// A packet without its interface.
+/// A packet without its interface.
 #[derive(Clone, Copy)]
 pub struct Header<V, W> {
     pub source: V,
@@ -84,7 +85,7 @@ pub struct Header<V, W> {
 }
 
 impl<V, W> Header<V, W> {
-    // The packet that it is where it comes in by this interface.
+    /// The packet that it is where it comes in by this interface.
     pub fn entering(self, interface: u8) -> Packet<V, W>
         ensures { result ≡ entering self interface }
     {
@@ -97,8 +98,8 @@ impl<V, W> Header<V, W> {
     }
 }
 
-// What is declared standing: between two domains, the packets with their parts in these regions are
-// accepted, or discarded, by the firewalls on the way.
+/// What is declared standing: between two domains, the packets with their parts in these regions are
+/// accepted, or discarded, by the firewalls on the way.
 #[derive(Clone, Copy)]
 pub struct Property<A, R> {
     pub sort: Decision,

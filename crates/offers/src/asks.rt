@@ -52,7 +52,7 @@ pub(crate) fn first_break<A: Kind, R: Kind>(
     network(state, rules).first_break(property, frames)
 }
 
-// What breaks a property, if anything does.
+/// What breaks a property, if anything does.
 pub fn ask<A: Kind, R: Kind>(
     state: &State<A, R>,
     memory: &mut Memory<'_, A::Row, R::Row>,
@@ -87,7 +87,7 @@ fn check_header_inside<A: Kind, R: Kind>(
     Err(Refusal::Outside)
 }
 
-// What becomes of a packet on its way.
+/// What becomes of a packet on its way.
 pub fn send<A: Kind, R: Kind>(
     state: &State<A, R>,
     memory: &Memory<'_, A::Row, R::Row>,

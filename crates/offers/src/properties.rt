@@ -41,7 +41,7 @@ fn check_offer_kept<A: Kind, R: Kind>(
     }
 }
 
-// Declares a property standing.
+/// Declares a property standing.
 pub fn stand<A: Kind, R: Kind>(
     state: &mut State<A, R>,
     memory: &mut Memory<'_, A::Row, R::Row>,
@@ -65,7 +65,7 @@ pub fn stand<A: Kind, R: Kind>(
     Ok(())
 }
 
-// Takes a standing property away.
+/// Takes a standing property away.
 pub fn withdraw<A: Kind, R: Kind>(
     state: &mut State<A, R>,
     memory: &mut Memory<'_, A::Row, R::Row>,

@@ -8,7 +8,7 @@ use model::{Answer, Call};
 use state::Memory;
 
 impl<A: Kind, R: Kind> Register<A, R> {
-    // Makes the call, and answers what it answers.
+    /// Makes the call, and answers what it answers.
     pub fn apply(
         &mut self,
         memory: &mut Memory<'_, A::Row, R::Row>,

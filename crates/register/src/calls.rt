@@ -11,8 +11,8 @@ use model::{Answer, Decision, Header, Property, Rule};
 use state::Memory;
 
 impl<A: Kind, R: Kind> Register<A, R> {
-    // Hangs the next firewall below a domain, with one rule for every packet of the whole, and the next
-    // domain below that; the numbers of both.
+    /// Hangs the next firewall below a domain, with one rule for every packet of the whole, and the next
+    /// domain below that; the numbers of both.
     pub fn attach(
         &mut self,
         memory: &mut Memory<'_, A::Row, R::Row>,
@@ -30,7 +30,7 @@ impl<A: Kind, R: Kind> Register<A, R> {
         )
     }
 
-    // Hangs the next domain below a firewall; its number.
+    /// Hangs the next domain below a firewall; its number.
     pub fn branch(
         &mut self,
         memory: &Memory<'_, A::Row, R::Row>,
@@ -45,7 +45,7 @@ impl<A: Kind, R: Kind> Register<A, R> {
         )
     }
 
-    // Gives a block of addresses to a domain.
+    /// Gives a block of addresses to a domain.
     pub fn give(
         &mut self,
         memory: &mut Memory<'_, A::Row, R::Row>,
@@ -61,7 +61,7 @@ impl<A: Kind, R: Kind> Register<A, R> {
         )
     }
 
-    // Takes a block back.
+    /// Takes a block back.
     pub fn take(
         &mut self,
         memory: &mut Memory<'_, A::Row, R::Row>,
@@ -76,7 +76,7 @@ impl<A: Kind, R: Kind> Register<A, R> {
         )
     }
 
-    // Inserts a rule into a firewall's list.
+    /// Inserts a rule into a firewall's list.
     pub fn place(
         &mut self,
         memory: &mut Memory<'_, A::Row, R::Row>,
@@ -93,7 +93,7 @@ impl<A: Kind, R: Kind> Register<A, R> {
         )
     }
 
-    // Replaces a rule of a firewall's list.
+    /// Replaces a rule of a firewall's list.
     pub fn alter(
         &self,
         memory: &mut Memory<'_, A::Row, R::Row>,
@@ -110,7 +110,7 @@ impl<A: Kind, R: Kind> Register<A, R> {
         )
     }
 
-    // Removes a rule from a firewall's list.
+    /// Removes a rule from a firewall's list.
     pub fn lift(
         &mut self,
         memory: &mut Memory<'_, A::Row, R::Row>,
@@ -126,7 +126,7 @@ impl<A: Kind, R: Kind> Register<A, R> {
         )
     }
 
-    // Declares a property standing.
+    /// Declares a property standing.
     pub fn stand(
         &mut self,
         memory: &mut Memory<'_, A::Row, R::Row>,
@@ -141,7 +141,7 @@ impl<A: Kind, R: Kind> Register<A, R> {
         )
     }
 
-    // Takes a standing property away.
+    /// Takes a standing property away.
     pub fn withdraw(
         &mut self,
         memory: &mut Memory<'_, A::Row, R::Row>,
@@ -156,7 +156,7 @@ impl<A: Kind, R: Kind> Register<A, R> {
         )
     }
 
-    // Whether a property is kept, or where and by which packet it is broken.
+    /// Whether a property is kept, or where and by which packet it is broken.
     pub fn ask(
         &self,
         memory: &mut Memory<'_, A::Row, R::Row>,
@@ -168,7 +168,7 @@ impl<A: Kind, R: Kind> Register<A, R> {
         answer(offers::ask(&self.state, memory, property), asked)
     }
 
-    // What becomes of a packet on its way.
+    /// What becomes of a packet on its way.
     pub fn send(
         &self,
         memory: &Memory<'_, A::Row, R::Row>,

@@ -13,8 +13,8 @@ use model::Call;
 use state::Memory;
 
 impl<A: Kind, R: Kind> Register<A, R> {
-    // The call of a line of the listing, counted from 0: made one after another from domain 0 alone,
-    // they build the tree again. Nothing past its end.
+    /// The call of a line of the listing, counted from 0: made one after another from domain 0 alone,
+    /// they build the tree again. Nothing past its end.
     pub fn listed(
         &self,
         memory: &Memory<'_, A::Row, R::Row>,

@@ -8,14 +8,14 @@ use lists::ListTable;
 use state::State;
 use tree::TreeTable;
 
-// What a register holds of its own; rules, blocks and properties lie in the memory lent to its calls.
+/// What a register holds of its own; rules, blocks and properties lie in the memory lent to its calls.
 #[derive(Drop)]
 pub struct Register<A, R> {
     pub(crate) state: State<A, R>,
 }
 
 impl<A: Kind, R: Kind> Register<A, R> {
-    // Domain 0 alone, in these wholes. The tables may hold anything.
+    /// Domain 0 alone, in these wholes. The tables may hold anything.
     pub fn new(addresses: A, rests: R) -> Register<A, R>
         ensures { (s : Stored A.Row R.Row) → Tells A.Kind R.Kind addresses rests [] result s }
     {

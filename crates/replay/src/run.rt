@@ -84,9 +84,9 @@ fn make_call<A: Kind, R: Kind>(
     )
 }
 
-// Makes a register with these wholes, makes the calls in their order, and answers the record of it: each
-// call with the lengths that were lent to it and what was answered. The tables and frames may hold anything
-// at first; where a step is to be lent more than there is, they are made longer.
+/// Makes a register with these wholes, makes the calls in their order, and answers the record of it: each
+/// call with the lengths that were lent to it and what was answered. The tables and frames may hold anything
+/// at first; where a step is to be lent more than there is, they are made longer.
 pub fn replay<A: Kind, R: Kind>(
     addresses: A,
     rests: R,

@@ -4,7 +4,7 @@ ghost use Rattle.replay.specs.Replay.{entry};
 
 use model::{Answer, Call, Lent, Recorded};
 
-// A call, and how much of each table and of the frames to lend to it.
+/// A call, and how much of each table and of the frames to lend to it.
 #[derive(Clone, Copy)]
 pub struct Step<A, R, V, W> {
     pub call: Call<A, R, V, W>,

@@ -12,7 +12,7 @@ use register::Memory;
 use search::{Entry, Frame};
 use std::alloc::{AllocError, Global};
 
-// Tables and frames with any contents. `X` and `Y` are the rows of addresses and of rests.
+/// Tables and frames with any contents. `X` and `Y` are the rows of addresses and of rests.
 #[derive(Drop)]
 pub struct Stores<X, Y> {
     pub rules: Vec<RuleRow<X, Y>>,
@@ -99,7 +99,7 @@ pub(crate) fn lengthen_all<A: Kind, R: Kind>(
     )
 }
 
-// Stores with exactly these lengths.
+/// Stores with exactly these lengths.
 pub fn stores_with<A: Kind, R: Kind>(
     alloc: Global,
     lent: Lent,
@@ -119,7 +119,7 @@ pub fn stores_with<A: Kind, R: Kind>(
     Ok(stores)
 }
 
-// The least lengths with which no call is refused for want of room.
+/// The least lengths with which no call is refused for want of room.
 pub fn least_lengths() -> Lent
     ensures { result ≡ least }
 {

@@ -13,7 +13,7 @@ use model::{Answer, Packet, Refusal};
 use spelling::put_bytes;
 use tables::Full;
 
-// Bytes that a buffer for replies must have.
+/// Bytes that a buffer for replies must have.
 pub const MIN_ANSWER: usize = 200;
 
 // The values that a packet is shown by.
@@ -160,7 +160,7 @@ fn put_words(buf: &mut [u8], reply: &Reply) -> Result<usize, Full>
     }
 }
 
-// Writes a reply, and a line feed behind it, at the front of the buffer: where it ends.
+/// Writes a reply, and a line feed behind it, at the front of the buffer: where it ends.
 pub fn put_reply(buf: &mut [u8], reply: &Reply) -> Result<usize, Full>
     ensures written { Puts buf.old buf.new 0 (reply_text reply.now) result }
     ensures room { min_answer ≤ length buf.old → IsOk result }

@@ -16,12 +16,14 @@ use lines::{Console, LongMemory};
 use model::{MAX_BLOCKS, MAX_DOMAINS, MAX_PROPERTIES, MAX_RULES};
 use rebuild::listings_rebuild;
 use replies::MIN_ANSWER;
+use thiserror::Error;
 
 // Lines that a listing can have: the heading, and what there is.
 const MAX_LINES: usize = MAX_DOMAINS + MAX_BLOCKS + MAX_RULES + MAX_PROPERTIES;
 
-// A line of the listing that the new console refuses, or one too many.
-#[derive(Clone, Copy, Debug, PartialEq, Eq)]
+/// A line of the listing that the new console refuses, or one too many.
+#[derive(Clone, Copy, Debug, PartialEq, Eq, Error)]
+#[error("line {line} of the listing is not taken")]
 pub struct Unrestored {
     pub line: usize,
 }
@@ -90,7 +92,7 @@ fn read_on(
     }
 }
 
-// Reads the first console's listing, line by line, into a new one, which is lent this memory.
+/// Reads the first console's listing, line by line, into a new one, which is lent this memory.
 pub fn restore(
     first: &mut Console,
     told: &mut LongMemory<'_>,

@@ -107,6 +107,7 @@ module _ {X V W : Type 0} (holds : X → V → Type 0) (region : W → Option X)
     smaller_cut d x e c f b reads lt less next =
         subst (λ k. measure most (set fs n f) k (focus.TheVariants.Open c.joint) < measure most fs n (focus.TheVariants.Open x)) (sym next)
         (cut_measure x e c f b reads lt less)
+
     whole_measure : (r s : X) → measure most fs n (focus.TheVariants.Barren s) < measure most fs (suc n) (focus.TheVariants.Barren r)
     whole_measure r s = less_second (weight fs n + 0) (weight fs (suc n) + 0) (most + 1 + n) (most + 1 + suc n) (2 * most + 2) (omega arith) (omega arith)
 

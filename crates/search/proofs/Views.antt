@@ -14,7 +14,7 @@ use Rattle.search.specs.declared.sight.Sight.{Sight}
 use Rattle.search.specs.declared.sight.Sight.TheVariants.{Good, Bad, Passed}
 use Rattle.search.proofs.Mapped.{first_map, first_unmap, nowhere_map, nowhere_unmap}
 use Rattle.search.proofs.Sights.{regions_few}
-use Rattle.search.proofs.Walks.{says_one}
+use Rattle.search.proofs.Walks.{matched, says_one}
 
 -- the two ways of telling the same outcome
 same_told : (a b : Option ℕ) → is_same a b ≡ true → a ≡ b
@@ -82,7 +82,7 @@ module _ {X V W : Type 0} (holds : X → V → Type 0) (region : W → Option X)
   well_met v m says (inl (k, x, first)) =
       let (e, at, is) = first_unmap (sight_of region wish) (λ (f : Entry W). row_holds holds region f.row v) (Holds holds v) (row_seen v) (seen_row v) es k (Good x) first in
       let wanted = good_wanted x (region e.row) (is_wanted wish (Some e.outcome)) is in
-      subst (Meets wish) (says_one (row_holds holds region) es v (Some (record { position = k; outcome = e.outcome })) m (e, at, refl) says) (wanted_meets wish (Some (record { position = k; outcome = e.outcome })) wanted)
+      subst (Meets wish) (says_one (row_holds holds region) es v (matched k e.outcome) m (e, at, refl) says) (wanted_meets wish (matched k e.outcome) wanted)
   well_met v m says (inr (none, good)) =
       let nowhere = nowhere_unmap (sight_of region wish) (λ (f : Entry W). row_holds holds region f.row v) (Holds holds v) (row_seen v) (seen_row v) es none in
       subst (Meets wish) (says_one (row_holds holds region) es v None m nowhere says) (wanted_meets wish None good)

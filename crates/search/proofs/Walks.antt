@@ -6,6 +6,9 @@ use Rattle.search.specs.List.{Says}
 use Rattle.search.specs.declared.list.Entry.{Entry}
 use Rattle.search.specs.declared.list.Match.{Match}
 
+abbrev pub matched : ℕ → ℕ → Option Match
+matched p o = Some (record { position = p; outcome = o })
+
 -- two firsts of a list are one
 pub first_one : {X : Type 0} (fits : X → Type 0) (xs : List X) (p q : ℕ) (x y : X) → First fits xs p x → First fits xs q y → (p ≡ q) × (x ≡ y)
 first_one fits xs p q x y f g = elim (cases_order p q) [

@@ -10,6 +10,7 @@ use crate::look::Viewed;
 use crate::lookup::outcome_of;
 use crate::view::Wished;
 use kinds::Kind;
+use thiserror::Error;
 
 /// A value with an outcome as wished, and the entry that decides it, if one does.
 #[derive(Clone, Copy)]
@@ -19,11 +20,13 @@ pub struct Found<V> {
 }
 
 /// There are fewer frames than entries plus one.
-#[derive(Clone, Copy, Debug, PartialEq)]
+#[derive(Clone, Copy, Debug, PartialEq, Error)]
+#[error("fewer frames than entries plus one")]
 pub struct TooShort;
 
 /// A value of the target whose outcome in the list is as wished; nothing exactly where no value of
 /// the target has such an outcome. Which of these values it is, is left open.
+#[tactic(auto, using(crate::proofs::Views::met_well, crate::proofs::Views::well_met))]
 pub fn find<K: Kind>(
     list: &[Entry<K::Row>],
     target: K,

@@ -41,7 +41,11 @@ fn split_along<K: Kind>(region: K, along: K) -> (K, K)
     let Some((a, b)) = region.split(along) else {
         unreachable()
     };
-    if share_a_value(a, along) { (a, b) } else { (b, a) }
+    if share_a_value(a, along) {
+        (a, b)
+    } else {
+        (b, a)
+    }
 }
 
 // Cuts a region along another until what they share lies in the other, and answers the last cut.

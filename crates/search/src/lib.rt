@@ -4,7 +4,6 @@
 mod answer;
 mod cut;
 mod engine;
-
 mod frames;
 mod list;
 mod look;
@@ -13,8 +12,8 @@ mod question;
 mod sight;
 mod view;
 
-pub use engine::explore;
 pub use answer::{Found, TooShort, find, search};
+pub use engine::explore;
 pub use frames::Frame;
 pub use kinds::{lies_inside, share_a_value};
 pub use list::{Entry, Match, Wish};

@@ -3,24 +3,26 @@ ghost use Rattle.std.specs.Prelude.{◌≡◌, Option, Decides};
 ghost use Rattle.search.specs.List.{Meets};
 ghost use Rattle.search.specs.View.{is_wanted};
 
-// A region, as a row of its kind, and the outcome number of the values that it is the first to hold.
+/// A region, as a row of its kind, and the outcome number of the values that it is the first to hold.
 #[derive(Clone, Copy)]
 pub struct Entry<R> {
     pub row: R,
     pub outcome: u32,
 }
 
-// The entry that decides a value: the first that holds it, by position and outcome number.
+/// The entry that decides a value: the first that holds it, by position and outcome number.
 #[derive(Clone, Copy, PartialEq, Debug)]
 pub struct Match {
     pub position: usize,
     pub outcome: u32,
 }
 
-// What is wished of an outcome. A value that no entry holds is unmatched: its outcome is `None`.
+/// What is wished of an outcome. A value that no entry holds is unmatched: its outcome is `None`.
 #[derive(Clone, Copy)]
 pub enum Wish {
+    /// The outcome is this one.
     Is(Option<u32>),
+    /// The outcome is another than this one.
     IsNot(Option<u32>),
 }
 

@@ -12,7 +12,7 @@ fn row_has<K: Kind>(row: K::Row, value: K::Value) -> bool
     K::read(row).is_some_and(|region| region.has(value))
 }
 
-// The entry that decides the value, if one holds it.
+/// The entry that decides the value, if one holds it.
 pub fn outcome_of<K: Kind>(list: &[Entry<K::Row>], value: K::Value) -> Option<Match>
     ensures { Says (row_holds K.Kind.holds K.Kind.region) list.now value result }
 {

@@ -18,6 +18,7 @@ pub enum Look<K, V> {
 
 /// A question about the values of a kind, for [`explore`](crate::explore) to answer.
 pub trait Question {
+    /// The kind whose values are asked about.
     type Region: Kind;
 
     // Which values are wished.

@@ -12,6 +12,7 @@ use kinds::Kind;
 /// for the values that no entry holds. A value is wished when the first entry that holds it is
 /// good, or none holds it and the end is good.
 pub trait View {
+    /// The kind of the entries.
     type Region: Kind;
 
     // The entries, in order.

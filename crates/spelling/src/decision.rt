@@ -8,9 +8,11 @@ ghost use Rattle.spelling.specs.Writes.{Puts};
 use crate::write::put_bytes;
 use model::Decision;
 use tables::Full;
+use thiserror::Error;
 
-// The text is no decision: this is its first byte that cannot stand there.
-#[derive(Clone, Copy, Debug, PartialEq, Eq)]
+/// The text is no decision: this is its first byte that cannot stand there, counted from 0.
+#[derive(Clone, Copy, Debug, PartialEq, Eq, Error)]
+#[error("neither `a` nor `d`, at byte {byte}")]
 pub struct NoDecision {
     pub byte: usize,
 }
@@ -26,7 +28,7 @@ fn decision_of(byte: u8) -> Option<Decision>
     }
 }
 
-// One letter: `a` accepts, `d` discards.
+/// One letter: `a` accepts, `d` discards.
 pub fn read_decision(text: &[u8]) -> Result<Decision, NoDecision>
     ensures { Only (ReadsDecision text.now) result }
 {
@@ -51,7 +53,7 @@ fn letter_of(decision: Decision) -> u8
     }
 }
 
-// Writes the letter of a decision.
+/// Writes the letter of a decision.
 pub fn put_decision(buf: &mut [u8], at: usize, decision: Decision) -> Result<usize, Full>
     ensures written { Puts buf.old buf.new at (decision_text decision) result }
     ensures short { length (decision_text decision) ≤ 1 }

@@ -3,32 +3,52 @@ ghost use Rattle.std.specs.Prelude.{◌≡◌, ◌+◌, ◌^◌, ◌<◌};
 ghost use Rattle.spelling.specs.declared.fault.Problem.TheVariants.{Number};
 ghost use Rattle.spelling.specs.Faults.{digits_before, number_fault, placed};
 
-// What a number finds. The first two are of its form, the last is of its value.
-#[derive(Clone, Copy, Debug, PartialEq, Eq)]
+use thiserror::Error;
+
+/// What a number finds. The first two are of its form, the last is of its value.
+#[derive(Clone, Copy, Debug, PartialEq, Eq, Error)]
 pub enum NumberFault {
+    /// There is no digit where a number should begin.
+    #[error("no digit")]
     NoDigit,
+    /// There is an eleventh digit.
+    #[error("more than 10 digits")]
     TooManyDigits,
+    /// The number is above its bound.
+    #[error("number above its bound")]
     TooLarge,
 }
 
-// What a region finds beside its numbers. The first is of its form, the others are of its value.
-#[derive(Clone, Copy, Debug, PartialEq, Eq)]
+/// What a region finds beside its numbers. The first is of its form, the others are of its value.
+#[derive(Clone, Copy, Debug, PartialEq, Eq, Error)]
 pub enum RegionFault {
+    /// No text of its kind begins so.
+    #[error("no text of its kind begins so")]
     Unfit,
+    /// A bit is set past the prefix's length.
+    #[error("bit set past the length of the prefix")]
     HostBits,
+    /// The range's first number is above its second.
+    #[error("first number of the range above its second")]
     LoAboveHi,
+    /// The mask is 0.
+    #[error("set of mask 0")]
     Empty,
 }
 
-// What is wrong, and which layer found it.
-#[derive(Clone, Copy, Debug, PartialEq, Eq)]
+/// What is wrong, and which layer found it.
+#[derive(Clone, Copy, Debug, PartialEq, Eq, Error)]
+#[error(transparent)]
 pub enum Problem {
+    /// A number found it.
     Number(NumberFault),
+    /// A region found it.
     Region(RegionFault),
 }
 
-// What is wrong, and at which byte of the field.
-#[derive(Clone, Copy, Debug, PartialEq, Eq)]
+/// What is wrong, and at which byte of the field, counted from 0.
+#[derive(Clone, Copy, Debug, PartialEq, Eq, Error)]
+#[error("{problem}, at byte {byte}")]
 pub struct Fault {
     pub problem: Problem,
     pub byte: usize,

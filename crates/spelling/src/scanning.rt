@@ -22,7 +22,7 @@ fn stands_at(mark: Mark, text: &[u8], at: usize) -> bool
     text.get(at).copied() == Some(mark.byte())
 }
 
-// The numbers that the text spells in this form, or its first byte that cannot stand there.
+/// The numbers that the text spells in this form, or its first byte that cannot stand there.
 pub fn scan<const N: usize>(marks: &[Mark; N], text: &[u8]) -> Result<Numbers<N>, Fault>
     ensures { Only (Scanned marks.now text.now) result }
 {

@@ -47,7 +47,7 @@ fn scan_mask(text: &[u8]) -> Result<u32, Fault>
     Ok(mask)
 }
 
-// The set with the mask that eight hexadecimal digits write.
+/// The set with the mask that eight hexadecimal digits write.
 pub fn read_set(text: &[u8]) -> Result<Set, Fault>
     ensures { Only (ReadsSet text.now) result }
 {
@@ -82,7 +82,7 @@ fn hex_bytes(mask: u32) -> [u8; 8]
     ]
 }
 
-// Writes the mask of a set.
+/// Writes the mask of a set.
 pub fn put_set(buf: &mut [u8], at: usize, set: Set) -> Result<usize, Full>
     ensures written { Puts buf.old buf.new at (set_text set) result }
     ensures short { length (set_text set) ≤ 8 }

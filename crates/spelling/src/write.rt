@@ -10,8 +10,8 @@ use forms::{Prefix, Range};
 use itoa::Buffer;
 use tables::Full;
 
-// Writes some bytes from a place on; answers where they end. Where there is no room for them nothing
-// before the place is touched.
+/// Writes some bytes from a place on; answers where they end. Where there is no room for them nothing
+/// before the place is touched.
 pub fn put_bytes(buf: &mut [u8], at: usize, bytes: &[u8]) -> Result<usize, Full>
     ensures { Puts buf.old buf.new at bytes.now result }
 {
@@ -45,7 +45,7 @@ fn put_numbers<const N: usize>(
     Ok(end)
 }
 
-// Writes a number, without extra zeros. Up to ten digits are read back.
+/// Writes a number, without extra zeros. Up to ten digits are read back.
 pub fn put_number(buf: &mut [u8], at: usize, number: u64) -> Result<usize, Full>
     ensures written { Puts buf.old buf.new at (decimal number) result }
     ensures short { length (decimal number) ≤ 20 }
@@ -61,7 +61,7 @@ fn octets(address: u32) -> [u64; 4]
     address.to_be_bytes().map(u64::from)
 }
 
-// Writes the four bytes of an address.
+/// Writes the four bytes of an address.
 pub fn put_address(buf: &mut [u8], at: usize, address: u32) -> Result<usize, Full>
     ensures written { Puts buf.old buf.new at (address_text address) result }
     ensures short { length (address_text address) ≤ 15 }
@@ -75,7 +75,7 @@ pub fn put_address(buf: &mut [u8], at: usize, address: u32) -> Result<usize, Ful
     put_numbers(buf, at, &ADDRESS, &numbers)
 }
 
-// Writes a prefix.
+/// Writes a prefix.
 pub fn put_prefix(buf: &mut [u8], at: usize, prefix: Prefix) -> Result<usize, Full>
     ensures written { Puts buf.old buf.new at (prefix_text prefix) result }
     ensures short { length (prefix_text prefix) ≤ 18 }
@@ -89,7 +89,7 @@ pub fn put_prefix(buf: &mut [u8], at: usize, prefix: Prefix) -> Result<usize, Fu
     put_numbers(buf, at, &PREFIX, &numbers)
 }
 
-// Writes a range.
+/// Writes a range.
 pub fn put_range(buf: &mut [u8], at: usize, range: Range) -> Result<usize, Full>
     ensures written { Puts buf.old buf.new at (range_text range) result }
     ensures short { length (range_text range) ≤ 21 }

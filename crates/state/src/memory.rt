@@ -11,9 +11,9 @@ use model::{
 };
 use search::Frame;
 
-// Three tables, which are the same at every call, and frames to work in. `X` and `Y` are the rows of
-// addresses and of rests. A function that lends two of the slices to one call names them first, as
-// `let rules = &mut *memory.rules;`: lent from the struct in the call itself they get no proof.
+/// Three tables, which are the same at every call, and frames to work in. `X` and `Y` are the rows of
+/// addresses and of rests. A function that lends two of the slices to one call names them first, as
+/// `let rules = &mut *memory.rules;`: lent from the struct in the call itself they get no proof.
 #[derive(Drop)]
 pub struct Memory<'a, X, Y> {
     pub rules: &'a mut [RuleRow<X, Y>],
@@ -24,7 +24,7 @@ pub struct Memory<'a, X, Y> {
 }
 
 impl<X, Y> Memory<'_, X, Y> {
-    // The lengths of the five slices.
+    /// The lengths of the five slices.
     pub fn lent(&self) -> Lent
         ensures { result ≡ lent_by self.now }
     {
@@ -37,7 +37,7 @@ impl<X, Y> Memory<'_, X, Y> {
         }
     }
 
-    // 1: the slices are long enough.
+    /// 1: the slices are long enough.
     pub fn check_lengths<V, W>(&self) -> Result<(), Refusal<V, W>>
         ensures { Refuses result TooShort (IsTooShort (lent_by self.now)) }
     {

@@ -11,7 +11,7 @@ use kinds::Kind;
 use model::Refusal;
 use search::lies_inside;
 
-// 2: there is something with this number, of those that there are.
+/// 2: there is something with this number, of those that there are.
 pub fn check_number<V, W>(number: usize, count: usize) -> Result<(), Refusal<V, W>>
     ensures { Refuses result NoSuch (count ≤ number) }
 {
@@ -21,7 +21,7 @@ pub fn check_number<V, W>(number: usize, count: usize) -> Result<(), Refusal<V, 
     Ok(())
 }
 
-// 4: one more would not be too many.
+/// 4: one more would not be too many.
 pub fn check_room<V, W>(count: usize, most: usize) -> Result<(), Refusal<V, W>>
     ensures { Refuses result Full (most < count + 1) }
 {
@@ -31,7 +31,7 @@ pub fn check_room<V, W>(count: usize, most: usize) -> Result<(), Refusal<V, W>>
     Ok(())
 }
 
-// 5: the region lies inside the whole.
+/// 5: the region lies inside the whole.
 pub fn check_inside<K: Kind, V, W>(region: K, whole: K) -> Result<(), Refusal<V, W>>
     ensures { Refuses result Outside (Inside (K.Kind.holds region) (K.Kind.holds whole) → ⊥) }
 {
@@ -42,7 +42,7 @@ pub fn check_inside<K: Kind, V, W>(region: K, whole: K) -> Result<(), Refusal<V,
 }
 
 impl<A, R> State<A, R> {
-    // 2: the domain exists.
+    /// 2: the domain exists.
     pub fn check_domain<V, W>(&self, domain: usize) -> Result<(), Refusal<V, W>>
         ensures { Refuses result NoSuch (Domain (shape_of self.now.tree) domain → ⊥) }
     {
@@ -51,7 +51,7 @@ impl<A, R> State<A, R> {
 }
 
 impl<A: Kind, R: Kind> State<A, R> {
-    // 5: the three regions of a rule or of a property lie inside the wholes.
+    /// 5: the three regions of a rule or of a property lie inside the wholes.
     pub fn check_regions_inside(
         &self,
         source: A,

@@ -6,7 +6,7 @@ ghost use Rattle.model.specs.Limits.{max_blocks, max_properties};
 use lists::ListTable;
 use tree::TreeTable;
 
-// The wholes, the tree, how long each list is, and how many blocks and properties there are.
+/// The wholes, the tree, how long each list is, and how many blocks and properties there are.
 #[derive(Drop)]
 pub struct State<A, R> {
     pub addresses: A,

@@ -15,9 +15,9 @@ fn used_row<T: Copy>(rows: &[T], used: usize, at: usize) -> Option<T>
     rows.get(..used)?.get(at).copied()
 }
 
-// Puts a row in at a position among the used ones, and moves those behind it on by one. The row
-// behind the used ones is used up, and is answered; nothing, and nothing is done, exactly when the
-// position is past the used rows or there is no row left.
+/// Puts a row in at a position among the used ones, and moves those behind it on by one. The row
+/// behind the used ones is used up, and is answered; nothing, and nothing is done, exactly when the
+/// position is past the used rows or there is no row left.
 pub fn insert_row<T: Copy>(rows: &mut [T], used: usize, at: usize, row: T) -> Option<T>
     ensures room { IsSome result ↔ ((at ≤ used) × (used < length rows.old)) }
     ensures behind { IfSome result (λ behind. slice_get rows.old used ≡ Some behind) }
@@ -34,9 +34,9 @@ pub fn insert_row<T: Copy>(rows: &mut [T], used: usize, at: usize, row: T) -> Op
     Some(behind)
 }
 
-// Takes the row at a position out from among the used ones, and moves those behind it back by one;
-// the row goes behind them, and is answered. Nothing, and nothing is done, exactly when there is no
-// such row.
+/// Takes the row at a position out from among the used ones, and moves those behind it back by one;
+/// the row goes behind them, and is answered. Nothing, and nothing is done, exactly when there is no
+/// such row.
 pub fn remove_row<T: Copy>(rows: &mut [T], used: usize, at: usize) -> Option<T>
     ensures there { IsSome result ↔ ((at < used) × (used ≤ length rows.old)) }
     ensures row { IfSome result (λ row. slice_get rows.old at ≡ Some row) }
@@ -51,8 +51,8 @@ pub fn remove_row<T: Copy>(rows: &mut [T], used: usize, at: usize) -> Option<T>
     Some(row)
 }
 
-// Puts another row in the place of a used one, which is answered. Nothing, and nothing is done,
-// exactly when there is no such row.
+/// Puts another row in the place of a used one, which is answered. Nothing, and nothing is done,
+/// exactly when there is no such row.
 pub fn replace_row<T: Copy>(rows: &mut [T], used: usize, at: usize, row: T) -> Option<T>
     ensures there { IsSome result ↔ ((at < used) × (used ≤ length rows.old)) }
     ensures before { IfSome result (λ before. slice_get rows.old at ≡ Some before) }

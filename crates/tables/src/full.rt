@@ -1,4 +1,8 @@
 // The error of what has no room left.
 
-#[derive(Clone, Copy, Debug, PartialEq, Eq)]
+use thiserror::Error;
+
+/// There is no room left.
+#[derive(Clone, Copy, Debug, PartialEq, Eq, Error)]
+#[error("no room left")]
 pub struct Full;

@@ -1,7 +1,7 @@
 // Parts of a table.
 ghost use Rattle.std.specs.Prelude.{◌≡◌, take, drop};
 
-// So many rows from a place on, cut to those that there are.
+/// So many rows from a place on, cut to those that there are.
 pub fn rows_from<T: Copy>(rows: &[T], start: usize, length: usize) -> &[T]
     ensures { result.now ≡ take length (drop start rows.now) }
 {
@@ -10,7 +10,7 @@ pub fn rows_from<T: Copy>(rows: &[T], start: usize, length: usize) -> &[T]
     part
 }
 
-// The used rows, the first `used`; all of them where fewer are lent.
+/// The used rows, the first `used`; all of them where fewer are lent.
 pub fn used_rows<T: Copy>(rows: &[T], used: usize) -> &[T]
     ensures { result.now ≡ take used rows.now }
 {

@@ -15,7 +15,7 @@ pub mod read;
 // A row for each domain but domain 0; there are no more firewalls than that.
 pub(crate) const ROWS: usize = MAX_DOMAINS - 1;
 
-// The rows of the firewalls, and those of the domains after domain 0: domain k + 1 is in row k.
+/// The rows of the firewalls, and those of the domains after domain 0: domain k + 1 is in row k.
 #[derive(Drop)]
 pub struct TreeTable {
     firewalls: FixedVec<Uplink, ROWS>,

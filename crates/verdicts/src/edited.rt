@@ -15,7 +15,7 @@ use model::{Packet, Property};
 use search::Frame;
 use tree::TreeTable;
 
-// A property, by its number, and a packet that breaks it.
+/// A property, by its number, and a packet that breaks it.
 #[derive(Clone, Copy)]
 pub struct Broken<V, W> {
     pub property: usize,

@@ -10,7 +10,7 @@ use kinds::Kind;
 use model::{Decision, Property};
 use search::Frame;
 
-// A property, by its number, and an address that is astray in it.
+/// A property, by its number, and an address that is astray in it.
 #[derive(Clone, Copy)]
 pub struct Astray<V> {
     pub property: usize,

@@ -4,7 +4,7 @@ use kinds::Kind;
 use lists::ListTable;
 use tree::TreeTable;
 
-// Where the firewalls hang, how long their lists are, and the rules of all lists, one after another.
+/// Where the firewalls hang, how long their lists are, and the rules of all lists, one after another.
 #[derive(Drop)]
 pub struct Network<'a, A: Kind, R: Kind> {
     pub tree: &'a TreeTable,

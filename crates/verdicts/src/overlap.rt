@@ -8,7 +8,7 @@ use checks::BlockRow;
 use kinds::Kind;
 use search::share_a_value;
 
-// The first block that shares an address with the region, if one does.
+/// The first block that shares an address with the region, if one does.
 pub fn first_overlap<A: Kind>(blocks: &[BlockRow<A::Row>], region: A) -> Option<usize>
     ensures { (bs : List (Block A)) → blocks.now ≡ map (block_entry A.Kind.plain) bs → OverlapFound A.Kind.holds bs region result }
 {

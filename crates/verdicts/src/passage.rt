@@ -16,7 +16,7 @@ use kinds::{Kind, PacketRegion};
 use model::{Decision, Header, Hop, Packet};
 use search::outcome_of;
 
-// The rule that stops a packet: its firewall, and its position in the list there.
+/// The rule that stops a packet: its firewall, and its position in the list there.
 #[derive(Clone, Copy)]
 pub struct Stop {
     pub firewall: usize,
@@ -24,8 +24,8 @@ pub struct Stop {
 }
 
 impl<A: Kind, R: Kind> Network<'_, A, R> {
-    // The first stop of a packet on the way from the domain of its source to that of its
-    // destination; nothing exactly when it passes every firewall.
+    /// The first stop of a packet on the way from the domain of its source to that of its
+    /// destination; nothing exactly when it passes every firewall.
     pub fn first_stop(
         &self,
         blocks: &[BlockRow<A::Row>],

@@ -11,7 +11,7 @@ use kinds::Kind;
 use model::{Hop, Packet, Property};
 use search::Frame;
 
-// A packet that breaks a property, and the firewall at which it does.
+/// A packet that breaks a property, and the firewall at which it does.
 #[derive(Drop)]
 pub struct Break<V, W> {
     pub firewall: usize,

@@ -12,7 +12,7 @@ ghost use Rattle.std.proofs.Math.Nat.{ℕ_set};
 ghost use Rattle.kinds.specs.Makes.{provided_yes, provided_some};
 
 use super::{Prefix, PrefixRow};
-use kinds::Kind;
+use kinds::{Kind, Relation};
 
 // The first `length` bits of an address, as a number.
 fn first_bits(address: u32, length: u8) -> u64
@@ -122,6 +122,22 @@ impl Kind for Prefix {
             ))
         } else {
             None
+        }
+    }
+
+    // The longer of two that share a value lies inside the shorter.
+    #[tactic(auto, using(crate::proofs::Halves::inside_in, crate::proofs::Halves::disjoint_in))]
+    fn relation(self, other: Prefix) -> Relation {
+        if other.length <= self.length {
+            if other.has(self.address) {
+                Relation::Inside
+            } else {
+                Relation::Apart
+            }
+        } else if self.has(other.address) {
+            Relation::Crossing
+        } else {
+            Relation::Apart
         }
     }
 

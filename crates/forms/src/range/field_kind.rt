@@ -10,7 +10,7 @@ ghost use Rattle.std.proofs.Math.Bridge.{le_prop};
 ghost use Rattle.kinds.specs.Makes.{provided_yes, provided_some};
 
 use super::{Range, RangeRow};
-use kinds::Kind;
+use kinds::{Kind, Relation};
 
 impl Range {
     /// The range from `lo` to `hi`; nothing exactly when `lo` is above `hi`.
@@ -102,6 +102,16 @@ impl Kind for Range {
             ))
         } else {
             None
+        }
+    }
+
+    fn relation(self, other: Range) -> Relation {
+        if other.hi < self.lo || self.hi < other.lo {
+            Relation::Apart
+        } else if other.lo <= self.lo && self.hi <= other.hi {
+            Relation::Inside
+        } else {
+            Relation::Crossing
         }
     }
 

@@ -118,11 +118,13 @@ impl<L: Kind, R: Kind> Kind for Pair<L, R> {
             let right = self.right.resolve(one.right, other.right);
             return Pair { left, right };
         }
-        if let Some(right) = common_around(self.right, one.right, other.right) {
-            let left = self.left.resolve(one.left, other.left);
-            return Pair { left, right };
+        match common_around(self.right, one.right, other.right) {
+            None => self,
+            Some(right) => Pair {
+                left: self.left.resolve(one.left, other.left),
+                right,
+            },
         }
-        self
     }
 
     // One side that keeps the two apart is enough: the right one if it does, else the left one.

@@ -12,6 +12,7 @@ ghost use Rattle.kinds.specs.Makes.{provided_yes, provided_some};
 
 use super::{Set, SetRow};
 use crate::kind::Kind;
+use crate::relation::Relation;
 
 impl Set {
     /// The set of this mask; nothing exactly when the mask is 0.
@@ -87,6 +88,19 @@ impl Kind for Set {
             Some((Set { mask: common }, Set { mask: others }))
         } else {
             None
+        }
+    }
+
+    #[tactic(auto, using(crate::proofs::Bits::apart_bits, crate::proofs::Bits::inside_bits, crate::proofs::Bits::crossing_bits))]
+    fn relation(self, other: Set) -> Relation {
+        let common = self.mask & other.mask;
+        let others = self.mask ^ common;
+        if common == 0 {
+            Relation::Apart
+        } else if others == 0 {
+            Relation::Inside
+        } else {
+            Relation::Crossing
         }
     }
 

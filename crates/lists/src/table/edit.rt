@@ -9,7 +9,7 @@ use model::{MAX_LIST, MAX_RULES};
 use tables::{FixedVec, Full};
 
 impl ListTable {
-    // No list yet.
+    /// No list yet.
     pub fn new() -> ListTable
         ensures { lengths_of result ≡ [] }
     {
@@ -18,8 +18,8 @@ impl ListTable {
         }
     }
 
-    // Adds a list of one rule, for the next firewall. Nothing is done exactly when there is no room
-    // for it.
+    /// Adds a list of one rule, for the next firewall. Nothing is done exactly when there is no room
+    /// for it.
     pub fn add(&mut self) -> Result<(), Full>
         ensures room { IsOk result ↔ ((length (lengths_of self.old) < max_domains - 1) × (sum (lengths_of self.old) < max_rules)) }
         ensures after { lengths_of self.new ≡ (if is_ok result then lengths_of self.old ++ (1 ∷ []) else lengths_of self.old) }
@@ -31,8 +31,8 @@ impl ListTable {
         self.lengths.push(1)
     }
 
-    // The list of a firewall has one rule more; its length now. Nothing is done exactly when there is
-    // no such firewall or no room for the rule.
+    /// The list of a firewall has one rule more; its length now. Nothing is done exactly when there is
+    /// no such firewall or no room for the rule.
     #[tactic(auto, using(std::proofs::lemmas::Grind::elements))]
     pub fn grow(&mut self, firewall: usize) -> Result<usize, ListRefusal>
         ensures room { IsOk result ↔ ((firewall < length (lengths_of self.old)) × (length_at (lengths_of self.old) firewall < max_list) × (sum (lengths_of self.old) < max_rules)) }
@@ -49,8 +49,8 @@ impl ListTable {
         Ok(length + 1)
     }
 
-    // The list of a firewall has one rule less; its length now. Nothing is done exactly when it has
-    // none.
+    /// The list of a firewall has one rule less; its length now. Nothing is done exactly when it has
+    /// none.
     pub fn shrink(&mut self, firewall: usize) -> Option<usize>
         ensures some { IsSome result ↔ (0 < length_at (lengths_of self.old) firewall) }
         ensures length { IfSome result (λ now. now ≡ length_at (lengths_of self.old) firewall - 1) }

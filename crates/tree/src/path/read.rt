@@ -6,7 +6,7 @@ use super::Route;
 use model::Hop;
 
 impl Route {
-    // The hops, from the first to the last.
+    /// The hops, from the first to the last.
     pub fn hops(&self) -> &[Hop]
         ensures { result.now ≡ hops_of self.now }
     {

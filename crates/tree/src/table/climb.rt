@@ -9,7 +9,7 @@ use super::TreeTable;
 use model::{Hop, Uplink};
 
 impl TreeTable {
-    // How many firewalls are above a domain; nothing where there is no such domain.
+    /// How many firewalls are above a domain; nothing where there is no such domain.
     pub fn depth(&self, domain: usize) -> Option<usize>
         ensures { MatchOption result (Domain (shape_of self.now) domain → ⊥) (λ n. Depth (shape_of self.now) domain n) }
     {

@@ -5,13 +5,14 @@ ghost use Rattle.tree.specs.Table.{shape_of};
 use super::TreeTable;
 
 impl TreeTable {
-    // How many domains there are, domain 0 among them.
+    /// How many domains there are, domain 0 among them.
     pub fn domain_count(&self) -> usize
         ensures { result ≡ suc (length (shape_of self.now).domains) }
     {
         self.domains.len() + 1
     }
 
+    /// How many firewalls there are.
     pub fn firewall_count(&self) -> usize
         ensures { result ≡ length (shape_of self.now).firewalls }
     {

@@ -9,7 +9,7 @@ use model::{MAX_DOMAINS, MAX_INTERFACES, Uplink};
 use tables::FixedVec;
 
 impl TreeTable {
-    // Domain 0 alone.
+    /// Domain 0 alone.
     pub fn new() -> TreeTable
         ensures { shape_of result ≡ bare }
     {
@@ -24,8 +24,8 @@ impl TreeTable {
         }
     }
 
-    // Hangs a new firewall below a domain by its interface `upper`, and a new domain below that by
-    // `lower`; the numbers of the two.
+    /// Hangs a new firewall below a domain by its interface `upper`, and a new domain below that by
+    /// `lower`; the numbers of the two.
     pub fn attach(
         &mut self,
         domain: usize,
@@ -46,7 +46,7 @@ impl TreeTable {
         Ok(self.hang(domain, upper, lower))
     }
 
-    // Hangs a new domain below a firewall by its interface; the domain's number.
+    /// Hangs a new domain below a firewall by its interface; the domain's number.
     pub fn branch(&mut self, firewall: usize, interface: u32) -> Result<usize, TreeRefusal>
         ensures { Branches self.old firewall interface result self.new }
     {

@@ -15,15 +15,15 @@ fn has_row(rows: &[Uplink], node: usize, interface: u32) -> bool
 }
 
 impl TreeTable {
-    // Where a firewall hangs, if there is one of this number.
+    /// Where a firewall hangs, if there is one of this number.
     pub fn firewall_uplink(&self, firewall: usize) -> Option<Uplink>
         ensures { result ≡ slice_get (shape_of self.now).firewalls firewall }
     {
         self.firewalls.get(firewall)
     }
 
-    // Where a domain lies; nothing for domain 0, and where there is none of this number. It is no twin of
-    // the last: domain k is in row k - 1, and domain 0 has none.
+    /// Where a domain lies; nothing for domain 0, and where there is none of this number. It is no twin of
+    /// the last: domain k is in row k - 1, and domain 0 has none.
     pub fn domain_uplink(&self, domain: usize) -> Option<Uplink>
         ensures { MatchOption result ((f i : ℕ) → Lies (shape_of self.now) domain f i → ⊥) (λ u. Lies (shape_of self.now) domain u.node u.interface) }
     {
@@ -31,7 +31,7 @@ impl TreeTable {
         self.domains.get(row)
     }
 
-    // The interface by which a firewall and a domain are joined, if they are.
+    /// The interface by which a firewall and a domain are joined, if they are.
     pub fn is_joined(&self, firewall: usize, domain: usize) -> Option<u8>
         ensures { MatchOption result ((i : ℕ) → Joined (shape_of self.now) firewall domain i → ⊥) (λ i. Joined (shape_of self.now) firewall domain i) }
     {
@@ -47,7 +47,7 @@ impl TreeTable {
         }
     }
 
-    // Whether some domain is joined to the firewall by this interface.
+    /// Whether some domain is joined to the firewall by this interface.
     pub fn in_use(&self, firewall: usize, interface: u32) -> bool
         ensures { Decides result ((d : ℕ) × Joined (shape_of self.now) firewall d interface) }
     {
@@ -58,7 +58,7 @@ impl TreeTable {
             || has_row(self.domains.as_slice(), firewall, interface)
     }
 
-    // A firewall that both domains are joined to, if there is one.
+    /// A firewall that both domains are joined to, if there is one.
     pub fn shared_firewall(&self, one: usize, other: usize) -> Option<usize>
         ensures { MatchOption result ((f i j : ℕ) → Joined (shape_of self.now) f one i → Joined (shape_of self.now) f other j → ⊥) (λ f. (i : ℕ) × (j : ℕ) × Joined (shape_of self.now) f one i × Joined (shape_of self.now) f other j) }
     {
