@@ -2,7 +2,7 @@
 use anyhow::ensure;
 use forms::{LongRest, Prefix, long_addresses, long_rest};
 use kinds::Kind;
-use lines::{Console, Intake, LongMemory};
+use lines::{Console, Intake};
 use replay::{Stores, least_lengths, stores_with};
 use replies::MIN_ANSWER;
 use std::alloc::{AllocError, Global};
@@ -27,13 +27,7 @@ impl Desk {
     // Writes the reply to the line that has come in.
     fn reply<W: Write>(&mut self, out: &mut W) -> anyhow::Result<()> {
         let mut buf = [0; MIN_ANSWER];
-        let mut memory = LongMemory {
-            rules: &mut self.stores.rules,
-            blocks: &mut self.stores.blocks,
-            properties: &mut self.stores.properties,
-            packet_frames: &mut self.stores.packet_frames,
-            address_frames: &mut self.stores.address_frames,
-        };
+        let mut memory = self.stores.lend();
         let length = self
             .console
             .answer(self.intake.line(), &mut memory, &mut buf);

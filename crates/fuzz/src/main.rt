@@ -7,7 +7,6 @@ mod again;
 mod counts;
 mod draw;
 mod fields;
-mod memory;
 mod mutate;
 mod random;
 mod run;

@@ -2,12 +2,13 @@
 use crate::again::restored;
 use crate::counts::Counts;
 use crate::draw::draw;
-use crate::memory::{lend, stores};
 use crate::random::Drawing;
 use chance::Random;
 use crate::sorts::sort_of;
 use anyhow::{Context, bail, ensure};
+use forms::{long_addresses, long_rest};
 use lines::{Console, LongMemory};
+use replay::{least_lengths, stores_with};
 use replies::MIN_ANSWER;
 use std::alloc::Global;
 
@@ -45,10 +46,10 @@ fn give(
 
 // Gives so many lines to consoles.
 pub(crate) fn run(heap: Global, random: &mut Random, lines: usize) -> anyhow::Result<Counts> {
-    let mut first = stores(heap)?;
-    let mut second = stores(heap)?;
-    let mut memory = lend(&mut first);
-    let mut spare = lend(&mut second);
+    let mut first = stores_with(heap, least_lengths(), long_addresses(), long_rest())?;
+    let mut second = stores_with(heap, least_lengths(), long_addresses(), long_rest())?;
+    let mut memory = first.lend();
+    let mut spare = second.lend();
     let mut console = Console::new();
     let mut counts = Counts::new();
     for number in 0..lines {

@@ -15,11 +15,21 @@ pub enum Shape {
     // Any entries.
     Any,
     // Thin slabs in one field.
-    Slabs { field: usize, count: u32 },
+    Slabs {
+        field: usize,
+        count: u32,
+    },
     // Thin slabs in several fields, and behind them two halves of one field, which hold all.
-    Covered { field: usize, count: u32 },
+    Covered {
+        field: usize,
+        count: u32,
+    },
     // Stairs: the further an entry goes in one field, the less far it goes in the other.
-    Stairs { one: usize, other: usize, count: u32 },
+    Stairs {
+        one: usize,
+        other: usize,
+        count: u32,
+    },
 }
 
 pub(crate) fn draw_shape<K: Judged>(random: &mut Random, count: u32) -> Shape {
@@ -71,11 +81,8 @@ impl Shape {
                 row: K::draw(random, Place::Entry),
                 outcome: random.below_u32(OUTCOMES),
             },
-            Shape::Slabs { count, .. }
-            | Shape::Covered { count, .. }
-            | Shape::Stairs { count, .. }
-                if place.saturating_add(1) == count =>
-            {
+            Shape::Slabs { count, .. } | Shape::Covered { count, .. } | Shape::Stairs { count, .. }
+                if place.saturating_add(1) == count => {
                 Entry {
                     row: all,
                     outcome: 0,

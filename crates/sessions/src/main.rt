@@ -8,13 +8,13 @@ mod ask;
 mod entry;
 mod escape;
 mod expected;
-mod memory;
 mod session;
 
 use anyhow::Context;
 use entry::{Entry, parse};
+use forms::{long_addresses, long_rest};
 use lines::LongMemory;
-use memory::{lend, stores};
+use replay::{least_lengths, stores_with};
 use session::Session;
 use std::alloc::Global;
 use std::io::{BufRead, BufReader};
@@ -65,12 +65,12 @@ impl Sessions<'_> {
 
 fn main(rt: HostRuntime) -> anyhow::Result<()> {
     let alloc = rt.alloc();
-    let mut told = stores(alloc)?;
-    let mut again = stores(alloc)?;
+    let mut told = stores_with(alloc, least_lengths(), long_addresses(), long_rest())?;
+    let mut again = stores_with(alloc, least_lengths(), long_addresses(), long_rest())?;
     let mut sessions = Sessions {
         alloc,
-        memory: lend(&mut told),
-        spare: lend(&mut again),
+        memory: told.lend(),
+        spare: again.lend(),
         current: None,
         sessions: 0,
         lines: 0,

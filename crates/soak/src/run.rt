@@ -1,5 +1,4 @@
 // A run: calls drawn, made and judged one after another.
-use chance::Random;
 use crate::draws::{Draw, Form, Name, draw_lent, draw_name, plain, typed};
 use crate::judge::{Case, Fixed, PlainAnswer, PlainCall, PlainTree, Wholes};
 use crate::kept::are_same_tables;
@@ -7,6 +6,7 @@ use crate::rows::RowKind;
 use crate::store::Store;
 use crate::tally::Tally;
 use anyhow::{Context, ensure};
+use chance::Random;
 use model::Lent;
 use register::Register;
 use std::alloc::Global;

@@ -1,7 +1,7 @@
 // The memory that lasts for a run, of which each call is lent a part.
 use crate::draws::{ASKED, Form, MORE};
-use chance::Random;
 use crate::kept::Tables;
+use chance::Random;
 use checks::{PacketRow, PropertyRow, RuleRow, block_row, property_row, rule_row};
 use kinds::{Kind, Set};
 use model::{Answer, Call, Decision, Lent, Property, Rule};

@@ -88,13 +88,7 @@ impl<'a, A: Kind + Shown, R: Kind + Shown, P: Print + AllocGlobal> Session<'a, A
 
     // Makes one call, and prints the answer beside what it is about.
     pub(crate) fn make(&mut self, words: &str, call: CallOf<A, R>) -> anyhow::Result<()> {
-        let mut memory = Memory {
-            rules: &mut self.stores.rules,
-            blocks: &mut self.stores.blocks,
-            properties: &mut self.stores.properties,
-            packet_frames: &mut self.stores.packet_frames,
-            address_frames: &mut self.stores.address_frames,
-        };
+        let mut memory = self.stores.lend();
         let said = self.register.apply(&mut memory, call);
         let lent = least_lengths();
         self.steps.push(Step { call, lent })?;

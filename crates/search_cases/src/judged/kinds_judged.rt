@@ -155,13 +155,7 @@ impl Judged for Set {
             Part::One(number) => 1 << (number % 2),
             Part::Half { upper: false } => 1,
             Part::Half { upper: true } => 2,
-            Part::UpTo(number) => {
-                if number % 2 == 0 {
-                    1
-                } else {
-                    3
-                }
-            }
+            Part::UpTo(number) => { if number % 2 == 0 { 1 } else { 3 } }
         };
         SetRow { mask }
     }

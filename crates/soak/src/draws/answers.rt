@@ -1,6 +1,6 @@
 // Answers as the judge takes them: what they show as sets of one value, or as the empty set where it is no
 // value of the whole.
-use crate::draws::forms::Form;
+use crate::draws::small_forms::Form;
 use crate::judge::PlainAnswer;
 use kinds::Kind;
 use model::{Answer, Packet, Refusal};

@@ -1,10 +1,10 @@
 // Draws calls that are mostly good in the tree as it stands.
 use crate::draws::both::{Drawn, Known};
-use crate::draws::forms::Form;
 use crate::draws::names::Name;
 use crate::draws::random::Drawing;
-use chance::Random;
+use crate::draws::small_forms::Form;
 use crate::judge::PlainTree;
+use chance::Random;
 use kinds::Kind;
 use model::{Call, Decision, Header, MAX_INTERFACES};
 

@@ -1,8 +1,8 @@
 // What addresses, or rests, are drawn from: a whole, and regions inside it and outside.
 use crate::draws::both::{Known, Member};
 use crate::draws::random::Drawing;
-use chance::Random;
 use crate::judge::{Region, value};
+use chance::Random;
 use kinds::Kind;
 use std::alloc::{AllocError, Global};
 
@@ -116,6 +116,22 @@ impl<K: Kind> Pool<K> {
             .iter()
             .find(|known| known.plain.values == wanted)
             .copied()
+    }
+
+    // The region of one value.
+    pub(crate) fn one(&self, random: &mut Random) -> Known<K> {
+        self.single(random, self.whole.plain.values)
+            .unwrap_or(self.whole)
+    }
+
+    // The region at a place among those that hold the first value.
+    pub(crate) fn nested(&self, place: usize) -> Known<K> {
+        self.inside
+            .iter()
+            .filter(|known| known.plain.values & 1 == 1)
+            .nth(place)
+            .copied()
+            .unwrap_or(self.whole)
     }
 
     // A region inside a set; any where the set is empty.

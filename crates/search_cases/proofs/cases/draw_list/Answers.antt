@@ -10,5 +10,5 @@ returns g c = IfOk-weaker c.collect.result _ (λ list. vec_len list ≤ 8) (λ l
     let p = h tt in
     let q = c.map.ensures.runs p.0 p.0.seen p.1 in
     let counted = range_runs q.0 q.0.seen in
-    let from : q.0.from.end - q.0.from.start ≡ c.below-count.result - 0 = ap (λ (r : Range ℕ). r.end - r.start) q.1 in
+    let from : q.0.from.end - q.0.from.start ≡ c.below_u32-count.result - 0 = ap (λ (r : Range ℕ). r.end - r.start) q.1 in
     omega (arith, p.3.1, p.0.long, q.2.1, counted.0)) c.collect.ensures.runs

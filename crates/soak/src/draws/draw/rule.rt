@@ -6,6 +6,9 @@ use chance::Random;
 use kinds::{Kind, Set};
 use model::{Call, Rule};
 
+// Steps of a stair: about as many as there are regions, one in another, that hold one address.
+const STEPS: usize = 7;
+
 // All interfaces, one, or some.
 fn interfaces(random: &mut Random) -> Set {
     let word = random.word();
@@ -15,6 +18,11 @@ fn interfaces(random: &mut Random) -> Set {
         _ => None,
     };
     drawn.unwrap_or_else(|| Set::up_to(31))
+}
+
+fn interface_alone(random: &mut Random) -> Set {
+    let number = (random.word() % 32) as u8;
+    Set::single(number).unwrap_or_else(|| Set::up_to(31))
 }
 
 // The lower interfaces, or the upper: a list may be complete by two such rules.
@@ -36,7 +44,16 @@ impl<A: Kind, R: Kind> Draw<'_, A, R> {
         random.number(self.tree.firewalls.len())
     }
 
-    fn rule(&self, random: &mut Random) -> Rule<Known<A>, Known<R>> {
+    // Most rules of some lists are slabs, and of others steps of stairs.
+    fn rule(&self, random: &mut Random, firewall: usize) -> Rule<Known<A>, Known<R>> {
+        match (firewall % 3, random.below(4)) {
+            (0, 0) | (1, 0..=2) => self.slab(random),
+            (2, 0..=2) => self.step(random),
+            _ => self.any_rule(random),
+        }
+    }
+
+    fn any_rule(&self, random: &mut Random) -> Rule<Known<A>, Known<R>> {
         if random.once_in(6) {
             return self.wide_rule(random);
         }
@@ -49,15 +66,43 @@ impl<A: Kind, R: Kind> Draw<'_, A, R> {
         }
     }
 
-    // Matches every packet, but for one part.
-    fn wide_rule(&self, random: &mut Random) -> Rule<Known<A>, Known<R>> {
-        let mut rule = Rule {
+    // Matches every packet.
+    fn whole_rule(&self, random: &mut Random) -> Rule<Known<A>, Known<R>> {
+        Rule {
             interfaces: Set::up_to(31),
             source: self.form.addresses.whole,
             destination: self.form.addresses.whole,
             rest: self.form.rests.whole,
             decision: decision(random, 6),
-        };
+        }
+    }
+
+    // Matches every packet with one value in some part.
+    fn slab(&self, random: &mut Random) -> Rule<Known<A>, Known<R>> {
+        let mut rule = self.whole_rule(random);
+        match random.below(8) {
+            0 => rule.interfaces = interface_alone(random),
+            1 => rule.rest = self.form.rests.one(random),
+            2 | 3 | 4 => rule.source = self.form.addresses.one(random),
+            _ => rule.destination = self.form.addresses.one(random),
+        }
+        rule
+    }
+
+    // A step of a stair: the wider its source, the narrower its destination.
+    fn step(&self, random: &mut Random) -> Rule<Known<A>, Known<R>> {
+        let addresses = &self.form.addresses;
+        let step = random.below(STEPS);
+        Rule {
+            source: addresses.nested(step),
+            destination: addresses.nested(STEPS - 1 - step),
+            ..self.whole_rule(random)
+        }
+    }
+
+    // Matches every packet, but for one part.
+    fn wide_rule(&self, random: &mut Random) -> Rule<Known<A>, Known<R>> {
+        let mut rule = self.whole_rule(random);
         match random.below(6) {
             0 => rule.source = self.form.addresses.inside(random),
             1 => rule.destination = self.form.addresses.inside(random),
@@ -73,7 +118,7 @@ impl<A: Kind, R: Kind> Draw<'_, A, R> {
         Call::Place {
             firewall,
             position: random.number(places),
-            rule: self.rule(random),
+            rule: self.rule(random, firewall),
         }
     }
 
@@ -82,7 +127,7 @@ impl<A: Kind, R: Kind> Draw<'_, A, R> {
         Call::Alter {
             firewall,
             position: random.number(self.tree.rules(firewall).len()),
-            rule: self.rule(random),
+            rule: self.rule(random, firewall),
         }
     }
 
