@@ -23,7 +23,7 @@ struct Regions<A, R> {
     upper: A,
 }
 
-fn regions<A: Kind + Numbered, R: Kind>(addresses: A, rests: R) -> Option<Regions<A, R>> {
+fn regions_of<A: Kind + Numbered, R: Kind>(addresses: A, rests: R) -> Option<Regions<A, R>> {
     let one = A::single(1)?;
     let (lower, upper) = addresses.split(one)?;
     Some(Regions {
@@ -188,7 +188,9 @@ fn lift<A: Kind, R: Kind>(position: usize) -> CallOf<A, R> {
 pub(crate) fn show<A: Kind + Numbered, R: Kind + Numbered>(
     session: &mut Session<A, R>,
 ) -> anyhow::Result<u32> {
-    let regions = regions(session.addresses, session.rests).context("there are no such regions")?;
+    let regions = regions_of(session.addresses, session.rests).context(
+        "there are no such regions",
+    )?;
     regions.prepare(session)?;
     regions.show_addresses(session)?;
     regions.show_unmatched(session)?;
