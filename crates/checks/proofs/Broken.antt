@@ -25,7 +25,6 @@ use Rattle.checks.specs.Breaks.{packet_in, decided_against, BreaksList, BreakFou
 use Rattle.checks.specs.Rows.{rule_entry}
 use Rattle.checks.proofs.Lists.{Holds, Rows, says_decided, decided_says, says_unmatched, unmatched_says}
 
-
 module _ {A R V W X Y : Type 0} (addr : A → V → Type 0) (rests : R → W → Type 0) (pa : A → X) (pr : R → Y) (ra : X → Option A) (rr : Y → Option R)
     (reads-a : (x : A) → ra (pa x) ≡ Some x) (reads-r : (x : R) → rr (pr x) ≡ Some x) where
   -- a match with this outcome number is a decision

@@ -1,8 +1,8 @@
 // Lines of all sorts.
 use crate::mutate::mutate;
 use crate::random::Drawing;
-use chance::Random;
 use crate::words::well_formed;
+use chance::Random;
 use std::alloc::{AllocError, Global};
 
 // A little longer than a line may be.

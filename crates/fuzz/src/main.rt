@@ -14,8 +14,8 @@ mod sorts;
 mod words;
 
 use anyhow::{Context, ensure};
-use draw::draw;
 use chance::Random;
+use draw::draw;
 use run::run;
 use std::alloc::Global;
 use std::env;

@@ -145,8 +145,7 @@ pub crossing_bits : (a b : ℕ) → a < 2 ^ 32 → 0 < bit_and a b → 0 < other
 crossing_bits a b few some more =
     let common = and_common a b in
     let shared = some_bit (bit_and a b) some (omega (arith, and_le_l a b)) in
-    let other = some_bit (others a b) more (xor_lt 32 _ _ few (omega (arith, and_le_l a b))) in
-    (
+    let other = some_bit (others a b) more (xor_lt 32 _ _ few (omega (arith, and_le_l a b))) in (
       (shared.0, common.left shared.0 shared.1, common.right shared.0 shared.1),
       λ i. others_out a b other.0 other.1 (i other.0 (others_in a b other.0 other.1)),
     )
