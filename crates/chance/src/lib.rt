@@ -1,7 +1,7 @@
 // Numbers that look random, the same in each run: what the test programs draw with.
 #![tactic(auto)]
 
-ghost use Rattle.std.specs.Prelude.{◌<◌};
+ghost use Rattle.std.specs.Prelude.{◌≡◌, ℕ, ◌<◌, ◌^◌, ◌↔◌, true, length, Some, IsSome, IfSome, slice_get};
 
 use rand_core::Rng;
 use rand_pcg::Pcg32;
@@ -19,7 +19,9 @@ impl Random {
     }
 
     /// Any 32 bits.
-    pub fn word(&mut self) -> u32 {
+    pub fn word(&mut self) -> u32
+        ensures { result < 2 ^ 32 }
+    {
         self.0.next_u32()
     }
 
@@ -40,12 +42,17 @@ impl Random {
     }
 
     /// Yes once in so many times.
-    pub fn once_in(&mut self, times: usize) -> bool {
+    pub fn once_in(&mut self, times: usize) -> bool
+        ensures { times ≡ 1 → result ≡ true }
+    {
         self.below(times) == 0
     }
 
     /// One of the items, if there are any.
-    pub fn pick<T: Copy>(&mut self, items: &[T]) -> Option<T> {
+    pub fn pick<T: Copy>(&mut self, items: &[T]) -> Option<T>
+        ensures some { IsSome result ↔ (0 < length items.now) }
+        ensures one { IfSome result (λ item. (k : ℕ) × slice_get items.now k ≡ Some item) }
+    {
         let at = self.below(items.len());
         items.get(at).copied()
     }
