@@ -1,9 +1,8 @@
--- The first of a list that fits, as `position` and `find` tell it.
-use Rattle.std.proofs.Common.{◌≡◌, ℕ, ◌<◌, List, length, Some, None, Option, Bor, sym, subst, inl, inr, arith, MatchOption}
+-- The first of a list that fits, as `position` tells it.
+use Rattle.std.proofs.Common.{◌≡◌, ℕ, ◌<◌, List, length, Some, None, Option, sym, subst, inl, inr, arith, MatchOption}
 use Rattle.std.specs.List.{AllWithin, HoldsAt}
 use Rattle.std.proofs.lemmas.Option.{get_or_from_slice_get, slice_get_cases}
 use Rattle.search.specs.First.{First, Nowhere, Before}
-use Rattle.std.specs.Option.{option_copied}
 use Rattle.search.proofs.Positions.{nth_get_or, nth_within}
 
 module _ {X : Type 0} (fits : X → Type 0) (xs : List X) where
@@ -26,8 +25,3 @@ module _ {X : Type 0} (fits : X → Type 0) (xs : List X) where
     | inl (x, inside, at, is) ↦ (x, record { here = at; fit = subst fits is (here x); before = before_within k all })
     | inr past ↦ absurd (omega arith)
   ]
-
-  -- the thing that `find` tells, or none
-  pub at_find : (r : Option (Bor X)) → MatchOption r (AllWithin Not xs 0 (length xs)) (λ x. fits x.now × (i : ℕ) × (i < length xs) × HoldsAt (λ y. y ≡ x.now) xs i × AllWithin Not xs 0 i) → MatchOption (option_copied r) (Nowhere fits xs) (λ x. (k : ℕ) × First fits xs k x)
-  at_find None all = nowhere_within all
-  at_find (Some x) (fit, k, less, is, all) = (k, first_within k x.now (less, is, all) fit)

@@ -1,5 +1,4 @@
 pub mod Positions
-pub mod Skipped
 pub mod Along
 pub mod Walks
 pub mod Sizes

@@ -15,7 +15,6 @@ mod view;
 pub use answer::{Found, TooShort, find, search};
 pub use engine::explore;
 pub use frames::Frame;
-pub use kinds::{lies_inside, share_a_value};
 pub use list::{Entry, Match, Wish};
 pub use look::Viewed;
 pub use lookup::outcome_of;

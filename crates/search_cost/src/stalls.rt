@@ -1,4 +1,4 @@
-// Two lists that a search which cuts along every entry that it meets would never get through: thin packets
+// Two lists on which a search that cuts along every entry that it meets takes minutes and seconds: thin packets
 // in each field in turn, of which two entries behind them hold all.
 use crate::draft::Draft;
 use crate::packets::{FIELDS, Field, thin, whole};

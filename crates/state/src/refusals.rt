@@ -7,9 +7,8 @@ ghost use Rattle.tree.specs.Table.{shape_of};
 ghost use Rattle.state.specs.Order.{Demands, Refuses, RegionsInside};
 
 use crate::state::State;
-use kinds::Kind;
+use kinds::{Kind, lies_inside};
 use model::Refusal;
-use search::lies_inside;
 
 /// 2: there is something with this number, of those that there are.
 pub fn check_number<V, W>(number: usize, count: usize) -> Result<(), Refusal<V, W>>

@@ -5,8 +5,7 @@ ghost use Rattle.model.specs.Tree.{Block};
 ghost use Rattle.verdicts.specs.Overlap.{RowShares, OverlapFound};
 
 use checks::BlockRow;
-use kinds::Kind;
-use search::share_a_value;
+use kinds::{Kind, share_a_value};
 
 /// The first block that shares an address with the region, if one does.
 pub fn first_overlap<A: Kind>(blocks: &[BlockRow<A::Row>], region: A) -> Option<usize>

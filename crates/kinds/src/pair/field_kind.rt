@@ -127,8 +127,15 @@ impl<L: Kind, R: Kind> Kind for Pair<L, R> {
         }
     }
 
-    // One side that keeps the two apart is enough: the right one if it does, else the left one.
+    // What is apart already stays as it is. Else one side that keeps the two apart is enough: the
+    // right one if it does, else the left one.
     fn separate(self, wide: Pair<L, R>, other: Pair<L, R>) -> Pair<L, R> {
+        if !share_a_value(wide.left, other.left) {
+            return wide;
+        }
+        if !share_a_value(wide.right, other.right) {
+            return wide;
+        }
         if !share_a_value(self.right, other.right) {
             let right = self.right.separate(wide.right, other.right);
             return wide.with_right(right);

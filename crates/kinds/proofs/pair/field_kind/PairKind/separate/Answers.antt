@@ -9,4 +9,4 @@ pub separate-left-requires-clause-inside : goal.separate-left-requires-clause-in
 separate-left-requires-clause-inside g c = inside_left _ _ _ _ (g.met.R.Kind.inhabited c.args.self.right) c.requires.inside
 
 pub separate-left-requires-clause-apart : goal.separate-left-requires-clause-apart
-separate-left-requires-clause-apart g c = apart_left _ _ _ _ (c.if-not-share_a_value.ensures.0 refl) c.requires.apart
+separate-left-requires-clause-apart g c = apart_left _ _ _ _ (c.if-not-share_a_value-3.ensures.0 refl) c.requires.apart
