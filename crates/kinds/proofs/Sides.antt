@@ -1,5 +1,5 @@
 -- Two regions side by side, from what is known of each side.
-use Rattle.std.proofs.Common.{◌≡◌, ◌⊎◌, inl, inr, subst}
+use Rattle.std.proofs.Common.{inl, inr}
 use Rattle.kinds.specs.Words.{Disjoint, Inside, Share, Common, Parted, Inhabited, Covered}
 use Rattle.kinds.specs.Related.{Related}
 use Rattle.kinds.specs.declared.pair.Pair.{Pair}

@@ -1,5 +1,5 @@
 -- How a region is cut along another, and what is learned of it.
-use Rattle.std.proofs.Common.{◌≡◌, ℕ, ◌+◌, ◌<◌, ◌≤◌, ◌⊎◌, List, inl, inr, arith}
+use Rattle.std.proofs.Common.{◌<◌, ◌⊎◌, List, inl, inr, arith}
 use mathlib.Core.List.{Memᴰ}
 use Rattle.kinds.specs.Words.{Disjoint, Inside, Share, Parted, Inhabited, Covered}
 use Rattle.kinds.specs.Related.{Related}

@@ -1,8 +1,7 @@
 -- Why a search ends: what is still to be looked at gets less, or else the frames in use change one way only.
-use Rattle.std.proofs.Common.{◌≡◌, ℕ, zero, suc, ◌+◌, ◌-◌, ◌*◌, ◌<◌, ◌≤◌, List, [], ◌∷◌, length, set, Some, None, Option, sym, refl, ap, ap₂, ◌∙◌, subst, arith}
-use mathlib.Core.List.{Memᴰ}
+use Rattle.std.proofs.Common.{◌≡◌, ℕ, zero, suc, ◌+◌, ◌-◌, ◌*◌, ◌<◌, ◌≤◌, List, length, set, Some, None, Option, sym, refl, ap, ap₂, ◌∙◌, subst, arith}
 use Rattle.std.specs.List.{slice_get}
-use Rattle.kinds.specs.Words.{Disjoint, Inside, Inhabited}
+use Rattle.kinds.specs.Words.{Inside}
 use Rattle.kinds.specs.Made.{dec_both}
 use Rattle.search.specs.Cut.{Parting, Learned, Begun}
 use Rattle.search.specs.Frames.{cut_of, IsKeptAt}
@@ -11,7 +10,7 @@ use Rattle.search.specs.declared.engine.Focus as focus
 use Rattle.search.specs.declared.engine.Focus.{Focus}
 use Rattle.search.specs.declared.frames.Frame.{Frame}
 use Rattle.search.proofs.Positions.{nth_set_same, nth_set_other}
-use Rattle.search.proofs.Sizes.{size, size_some, size_apart}
+use Rattle.search.proofs.Sizes.{size, size_apart}
 
 -- a smaller first number, or the same and a smaller second one below b
 pub less_first : (m n i j b : ℕ) → m < n → i < b → m * b + i < n * b + j

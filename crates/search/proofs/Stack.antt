@@ -1,8 +1,8 @@
 -- What the frames of a search keep.
-use Rattle.std.proofs.Common.{◌≡◌, ℕ, zero, suc, ◌+◌, ◌<◌, ◌≤◌, ◌⊎◌, List, [], ◌∷◌, length, set, Some, None, Option, sym, refl, ap, ◌∙◌, subst, inl, inr, arith, length-set}
+use Rattle.std.proofs.Common.{◌≡◌, ℕ, zero, suc, ◌+◌, ◌<◌, ◌≤◌, ◌⊎◌, List, length, set, Some, Option, sym, refl, ap, ◌∙◌, subst, inl, inr, arith}
 use mathlib.Core.List.{Memᴰ}
 use Rattle.std.specs.List.{slice_get}
-use Rattle.kinds.specs.Words.{Disjoint, Inside, Covered, Common}
+use Rattle.kinds.specs.Words.{Disjoint, Inside, Covered}
 use Rattle.kinds.specs.Related.{Related}
 use Rattle.kinds.specs.declared.relation.Relation.TheVariants.{Crossing}
 use Rattle.search.specs.Cut.{Parting, Learned, Begun}

@@ -1,9 +1,8 @@
 -- The view of a list with a wish says of each value what the list says.
-use Rattle.std.proofs.Common.{◌≡◌, ℕ, ◌<◌, ◌≤◌, ◌⊎◌, Bool, true, false, not, nat_eq, List, length, map, Some, None, Option, MatchOption, sym, refl, ap, ◌∙◌, subst, inl, inr, arith}
+use Rattle.std.proofs.Common.{◌≡◌, ℕ, ◌≤◌, Bool, true, false, not, List, length, Some, None, Option, MatchOption, refl, ap, ◌∙◌, subst, inl, inr, arith}
 use Rattle.std.proofs.lemmas.Bool.{false≢true, eqb-true, eq-eqb}
 use Rattle.std.proofs.lemmas.List.{length-map}
-use Rattle.std.specs.List.{slice_get}
-use Rattle.search.specs.First.{First, Nowhere}
+use Rattle.search.specs.First.{First}
 use Rattle.search.specs.List.{row_holds, Says, Meets, outcome}
 use Rattle.search.specs.View.{Holds, WellDecided, is_same, is_wanted, sight_with, sight_of, sights_of, end_of, regions_of}
 use Rattle.search.specs.declared.list.Entry.{Entry}
@@ -11,7 +10,7 @@ use Rattle.search.specs.declared.list.Match.{Match}
 use Rattle.search.specs.declared.list.Wish.{Wish}
 use Rattle.search.specs.declared.list.Wish.TheVariants.{Is, IsNot}
 use Rattle.search.specs.declared.sight.Sight.{Sight}
-use Rattle.search.specs.declared.sight.Sight.TheVariants.{Good, Bad, Passed}
+use Rattle.search.specs.declared.sight.Sight.TheVariants.{Good}
 use Rattle.search.proofs.Mapped.{first_map, first_unmap, nowhere_map, nowhere_unmap}
 use Rattle.search.proofs.Sights.{regions_few}
 use Rattle.search.proofs.Walks.{matched, says_one}

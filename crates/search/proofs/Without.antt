@@ -1,5 +1,5 @@
 -- A list without one of its members.
-use Rattle.std.proofs.Common.{◌≡◌, ℕ, suc, List, [], ◌∷◌, length, sym, refl, ap, ◌∙◌}
+use Rattle.std.proofs.Common.{◌≡◌, suc, List, [], ◌∷◌, length, sym, refl, ap, ◌∙◌}
 use mathlib.Core.List.{Memᴰ}
 
 -- one shorter, with all the others

@@ -1,6 +1,5 @@
 -- What a look at a region meets in a view, entry by entry. x is the region, and c a value of it.
-use Rattle.std.specs.Prelude.{◌≡◌, ℕ, ◌+◌, ◌<◌, Bool, true, false, List, Some}
-use Rattle.std.specs.List.{slice_get}
+use Rattle.std.specs.Prelude.{◌≡◌, ℕ, ◌+◌, Bool, true, false, List}
 use mathlib.Core.List.{Memᴰ}
 use Rattle.kinds.specs.Words.{Inside, Share, Disjoint}
 use Rattle.kinds.specs.Related.{Related}
