@@ -30,7 +30,7 @@ impl Tally {
     }
 }
 
-const MOST_ENTRIES: u32 = 8;
+const MOST_ENTRIES: u32 = 24;
 
 const QUESTIONS: u32 = 4;
 
@@ -70,7 +70,7 @@ fn draw_wish(random: &mut Random) -> Wish {
 }
 
 fn draw_list<K: Judged>(heap: Global, random: &mut Random) -> Result<Vec<Entry<K::Row>>, AllocError>
-    ensures { IfOk result (λ list. vec_len list ≤ 8) }
+    ensures { IfOk result (λ list. vec_len list ≤ 24) }
 {
     let count = random.below_u32(MOST_ENTRIES + 1);
     let shape = draw_shape::<K>(random, count);

@@ -6,7 +6,7 @@ use Rattle.search_cases.proofs.cases.draw_list.Goals as goal
 
 -- as many entries are collected as the range has numbers
 pub returns : goal.returns
-returns g c = IfOk-weaker c.collect.result _ (λ list. vec_len list ≤ 8) (λ list h.
+returns g c = IfOk-weaker c.collect.result _ (λ list. vec_len list ≤ 24) (λ list h.
     let p = h tt in
     let q = c.map.ensures.runs p.0 p.0.seen p.1 in
     let counted = range_runs q.0 q.0.seen in
