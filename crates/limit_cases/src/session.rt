@@ -33,6 +33,12 @@ pub struct Session<A: Kind, R: Kind> {
     pub log: Vec<u32>,
 }
 
+// The first of these rows, or all where there are fewer.
+fn first<T>(rows: &mut [T], count: usize) -> &mut [T] {
+    let count = count.min(rows.len());
+    &mut rows[..count]
+}
+
 // Makes a call with so much memory.
 fn lend<A: Kind, R: Kind>(
     register: &mut Register<A, R>,
@@ -40,17 +46,12 @@ fn lend<A: Kind, R: Kind>(
     lent: Lent,
     call: CallOf<A, R>,
 ) -> Answer<A::Value, R::Value> {
-    let rules = lent.rules.min(stores.rules.len());
-    let blocks = lent.blocks.min(stores.blocks.len());
-    let properties = lent.properties.min(stores.properties.len());
-    let packet_frames = lent.packet_frames.min(stores.packet_frames.len());
-    let address_frames = lent.address_frames.min(stores.address_frames.len());
     let mut memory = Memory {
-        rules: &mut stores.rules[..rules],
-        blocks: &mut stores.blocks[..blocks],
-        properties: &mut stores.properties[..properties],
-        packet_frames: &mut stores.packet_frames[..packet_frames],
-        address_frames: &mut stores.address_frames[..address_frames],
+        rules: first(&mut stores.rules, lent.rules),
+        blocks: first(&mut stores.blocks, lent.blocks),
+        properties: first(&mut stores.properties, lent.properties),
+        packet_frames: first(&mut stores.packet_frames, lent.packet_frames),
+        address_frames: first(&mut stores.address_frames, lent.address_frames),
     };
     register.apply(&mut memory, call)
 }
