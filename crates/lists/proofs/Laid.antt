@@ -1,11 +1,11 @@
 -- What lies where in a table of rows, and how an edit of one list moves it.
-use Rattle.std.proofs.Common.{◌≡◌, ℕ, suc, ◌+◌, ◌-◌, ◌<◌, ◌≤◌, List, [], ◌∷◌, ◌++◌, map, length, get_or, take, drop, set, sum, sym, refl, ap, ◌∙◌, subst, ap₂, inl, inr, append_assoc, arith, length-append, length-set, length-take}
+use Rattle.std.proofs.Common.{◌≡◌, ℕ, suc, ◌+◌, ◌-◌, ◌<◌, ◌≤◌, List, [], ◌∷◌, ◌++◌, map, length, get_or, take, drop, set, sum, sym, refl, ap, ◌∙◌, subst, ap₂, inl, inr, append_assoc, arith, length-append, length-set, length-take, length-take-le, take_all}
 use mathlib.Core.List.{map-append}
 use lib.ListN.{get_or-map, length-map}
 use lib.Seq.{split_at, set_split, map-set, set-get_or, take-set-lt}
 use Rattle.std.specs.List.{insert, remove}
 use Rattle.std.proofs.lemmas.List.Edits.{length-insert, length-remove}
-use Rattle.std.proofs.lemmas.List.{get_or_past, take-map}
+use Rattle.std.proofs.lemmas.List.{get_or_past, drop_all, take-map}
 use Rattle.std.proofs.lemmas.List.Sums.{sum_by_push, sum_by-set, sum_by-cons, sum_by_more, sum_by-take-le}
 use Rattle.std.proofs.lemmas.Bool.{cases_lt}
 use Rattle.std.proofs.lemmas.Option.{unwrap_or-slice_get}
@@ -183,6 +183,12 @@ module _ {X Y : Type 0} {row : X → Y} {lens : List ℕ} {table : List Y} {ls :
     lengths = ap (λ (ns : List ℕ). ns ++ (1 ∷ [])) laid.lengths ∙ sym (map-append length ls ((x ∷ []) ∷ []));
     rows = ap (λ n. take n after) (sum_by_push (λ n. n) lens 1) ∙ is ∙ ap (λ (k : List Y). k ++ (row x ∷ [])) laid.rows ∙ sym (map-append row (joined ls) (x ∷ [])) ∙ ap (map row) (sym (joined_append ls ((x ∷ []) ∷ [])));
   }
+
+  -- the same, with the new row put in behind the used ones
+  pub laid_appended : (x : X) (after : List Y) → take (sum lens + 1) after ≡ insert (take (sum lens) table) (sum lens) (row x) → Laid row (lens ++ (1 ∷ [])) after (ls ++ ((x ∷ []) ∷ []))
+  laid_appended x after is =
+      let size = length-take-le (sum lens) table laid_within in
+      laid_added x after (is ∙ ap₂ (λ a b. a ++ row x ∷ b) (take_all (sum lens) (take (sum lens) table) (omega arith)) (drop_all (sum lens) (take (sum lens) table) (omega arith)))
 
 joined_rules : {A R : Type 0} (ls : List (List (Rule A R))) → length (joined ls) ≡ count_rules ls
 joined_rules [] = refl

@@ -46,6 +46,9 @@ module _ {X : Type 0} where
     pub drop_row_in : drop (u + 1) (row_in u at x xs) ≡ drop (u + 1) xs
     drop_row_in = drop_at (insert (take u xs) at x) (drop (u + 1) xs) (u + 1) used_in
 
+    pub length_row_in : length (row_in u at x xs) ≡ length xs
+    length_row_in = let used = used_in in let left = length-drop (u + 1) xs in length-append (insert (take u xs) at x) (drop (u + 1) xs) ∙ omega arith
+
     -- taken out again, and the row that was used up put back
     pub undo_in : (old : X) → slice_get xs u ≡ Some old → set (row_out (u + 1) at (row_in u at x xs)) u old ≡ xs
     undo_in old e =
@@ -83,6 +86,13 @@ module _ {X : Type 0} where
         let front = remove (take u xs) at ++ take 1 (drop at xs) in
         let size : length front ≡ u = let used = used_out in let one = one_out in length-append (remove (take u xs) at) (take 1 (drop at xs)) ∙ omega arith in
         ap (drop u) (sym (append_assoc (remove (take u xs) at) (take 1 (drop at xs)) (drop u xs))) ∙ drop_at front (drop u xs) u size
+
+    pub length_row_out : length (row_out u at xs) ≡ length xs
+    length_row_out =
+        let used = used_out in
+        let one = one_out in
+        let left = length-drop u xs in
+        length-append (remove (take u xs) at) (take 1 (drop at xs) ++ drop u xs) ∙ ap (λ n. length (remove (take u xs) at) + n) (length-append (take 1 (drop at xs)) (drop u xs)) ∙ omega arith
 
     -- put in again at its place
     pub undo_out : (x : X) → slice_get xs at ≡ Some x → row_in (u - 1) at x (row_out u at xs) ≡ xs

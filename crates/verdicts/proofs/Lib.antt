@@ -1,3 +1,4 @@
+pub mod Along
 pub mod Shared
 pub mod Strays
 pub mod Hops

@@ -3,7 +3,7 @@ ghost use Rattle.std.specs.Prelude.{◌≡◌, suc, ◌-◌, ◌<◌, ◌≤◌,
 ghost use Rattle.model.specs.Limits.{max_domains, max_list, max_rules};
 ghost use Rattle.lists.specs.Lengths.{lengths_of, length_at};
 
-use super::ListTable;
+use super::{ListTable, ROWS};
 use crate::refusal::ListRefusal;
 use model::{MAX_LIST, MAX_RULES};
 use tables::{FixedVec, Full};
@@ -25,7 +25,8 @@ impl ListTable {
         ensures after { lengths_of self.new ≡ (if is_ok result then lengths_of self.old ++ (1 ∷ []) else lengths_of self.old) }
         ensures same { OnErr result (self.new ≡ self.old) }
     {
-        if self.total() >= MAX_RULES {
+        // The count first: a full table is told at once, and not by the sum of its lengths.
+        if self.lengths.len() >= ROWS || self.total() >= MAX_RULES {
             return Err(Full);
         }
         self.lengths.push(1)
