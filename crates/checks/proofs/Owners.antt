@@ -1,6 +1,8 @@
 -- What the rows of the blocks say of addresses.
 use Rattle.std.proofs.Common.{◌≡◌, ℕ, List, map, Some, None, Option, sym, refl, ap, ◌∙◌, subst, inl, inr, arith, MatchOption}
 use native.Mathlib.Decide.{ℕ_discrete}
+use Rattle.std.specs.List.{slice_get}
+use Rattle.kinds.specs.Words.{Inside}
 use Rattle.search.specs.Answer.{Answered}
 use Rattle.search.specs.List.{row_holds, Says, outcome}
 use Rattle.search.specs.declared.answer.Found.{Found}
@@ -11,9 +13,9 @@ use Rattle.model.specs.Properties.{Of}
 use Rattle.model.specs.Tree.{Tree, Block}
 use Rattle.model.proofs.Firsts.{first_or_none}
 use Rattle.model.proofs.Meanings.{of_one}
-use Rattle.checks.specs.Addresses.{OwnedApart, AstrayFound, Home, domain_in}
+use Rattle.checks.specs.Addresses.{OwnedApart, AstrayFound, Covers, CoversAt, Home, domain_in}
 use Rattle.checks.specs.Rows.{block_entry}
-use Rattle.search.proofs.Mapped.{first_map, first_unmap, nowhere_map, nowhere_unmap}
+use Rattle.search.proofs.Mapped.{nth_map, first_map, first_unmap, nowhere_map, nowhere_unmap}
 
 -- the value that a search has found
 abbrev pub value_in : {V : Type 0} → Option (Found V) → Option V
@@ -41,6 +43,16 @@ module _ {A R V W X : Type 0} (addr : A → V → Type 0) (rests : R → W → T
   -- the same, of rows as a call has them
   pub called_of : (es : List (Entry X)) → es ≡ map (block_entry pa) t.blocks → (v : V) (m : Option Match) → Says Rows es v m → Of addr rests t v (domain_in m)
   called_of es is v m says = says_of v m (subst (λ l. Says Rows l v m) is says)
+
+  -- where the block of one address holds all of a region, all of it is of that block's domain
+  pub covered_of : (es : List (Entry X)) → es ≡ map (block_entry pa) t.blocks → (v : V) (m : Match) → Says Rows es v (Some m) → (x : A) → CoversAt addr ra es m.position x → Inside (addr x) (λ (a : V). Of addr rests t a m.outcome)
+  covered_of es is v m says x covers =
+      let (e, f, o) = subst (λ l. Says Rows l v (Some m)) is says in
+      let (b, first, same) = first_unmap (block_entry pa) (λ (c : Block A). addr c.region v) (λ (y : Entry X). Rows y.row v) (into v) (out v) t.blocks m.position e f in
+      let at : slice_get es m.position ≡ Some (block_entry pa b) = ap (λ l. slice_get l m.position) is ∙ nth_map (block_entry pa) t.blocks m.position b first.here in
+      let inside : Covers addr ra (pa b.region) x = subst (λ r. MatchOption r ⊥ (λ (y : Entry X). Covers addr ra y.row x)) at covers in
+      let held : Inside (addr x) (addr b.region) = subst (λ r. MatchOption r ⊥ (λ around. Inside (addr x) (addr around))) (reads b.region) inside in
+      λ a h. inl (m.position, b, first.here, held a h, sym (ap (λ (y : Entry X). y.outcome) same) ∙ o)
 
   -- where an address can be told, the rows have a match for it
   pub says_some : ((x : A) (v : V) → Dec (addr x v)) → (v : V) → (m : Option Match) × Says Rows (map (block_entry pa) t.blocks) v m

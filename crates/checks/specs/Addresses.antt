@@ -1,5 +1,5 @@
 -- Addresses of a region that are not of a domain.
-use Rattle.std.specs.Prelude.{◌≡◌, ℕ, ◌⊎◌, List, map, Some, None, Option, ◌≢◌}
+use Rattle.std.specs.Prelude.{◌≡◌, ℕ, ◌⊎◌, List, map, Some, None, Option, MatchOption, ◌≢◌}
 use Rattle.std.specs.List.{slice_get}
 use Rattle.kinds.specs.Words.{Inside, Share}
 use Rattle.kinds.specs.declared.kind.Kind.{Ghosts}
@@ -23,6 +23,14 @@ pub record OwnedApart {A V : Type 0} (addr : A → V → Type 0) (bs : List (Blo
 pub record BlocksAre {A R V X : Type 0} (kind : Ghosts A V X) (rows : List (Entry X)) (t : Tree A R) : Type 0 where
   pub same : rows ≡ map (block_entry kind.plain) t.blocks
   pub owned : OwnedApart kind.holds t.blocks
+
+-- the region of a row holds all of this one; a row that no region has holds nothing
+abbrev pub Covers : {A V X : Type 0} → (A → V → Type 0) → (X → Option A) → X → A → Type 0
+Covers holds region w x = MatchOption (region w) ⊥ (λ around. Inside (holds x) (holds around))
+
+-- the block at a position holds all of this region
+abbrev pub CoversAt : {A V X : Type 0} → (A → V → Type 0) → (X → Option A) → List (Entry X) → ℕ → A → Type 0
+CoversAt holds region rows p x = MatchOption (slice_get rows p) ⊥ (λ block. Covers holds region block.row x)
 
 -- the outcome of the addresses of a domain, in the rows of the blocks
 abbrev pub Home : ℕ → Option ℕ → Type 0

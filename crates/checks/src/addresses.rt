@@ -1,12 +1,12 @@
 // Of which domain addresses are.
-ghost use Rattle.std.specs.Prelude.{◌≡◌, ◌<◌, map, length};
-ghost use Rattle.checks.specs.Addresses.{BlocksAre, AstrayFound, Home, domain_in};
+ghost use Rattle.std.specs.Prelude.{◌≡◌, ◌<◌, Decides, map, length};
+ghost use Rattle.checks.specs.Addresses.{BlocksAre, AstrayFound, Covers, CoversAt, Home, domain_in};
 ghost use Rattle.checks.specs.Rows.{block_entry};
 ghost use Rattle.model.specs.Properties.{Of};
 ghost use Rattle.model.specs.Tree.{Tree};
 
 use crate::rows::BlockRow;
-use kinds::Kind;
+use kinds::{Kind, lies_inside};
 use search::{Frame, Match, Wish, find, outcome_of};
 
 /// The domain of an address: that of the block that holds it, or 0.
@@ -30,9 +30,27 @@ fn home_of(domain: u32) -> Option<u32>
     if domain == 0 { None } else { Some(domain) }
 }
 
+// Whether the region of a row holds all of this one.
+fn row_covers<A: Kind>(row: A::Row, region: A) -> bool
+    ensures { Decides result (Covers A.Kind.holds A.Kind.region row region) }
+{
+    A::read(row).is_some_and(|around| lies_inside(region, around))
+}
+
+// Whether the block at a position holds all of the region.
+fn covers_at<A: Kind>(blocks: &[BlockRow<A::Row>], position: usize, region: A) -> bool
+    ensures { Decides result (CoversAt A.Kind.holds A.Kind.region blocks.now position region) }
+{
+    match blocks.get(position) {
+        Some(block) => row_covers(block.row, region),
+        None => false,
+    }
+}
+
 /// An address of the region that is not of the domain; nothing exactly when there is none.
 ///
-/// It asks of one address first, since a number that no block can have is that of no domain.
+/// It asks of one address first, since a number that no block can have is that of no domain. Where the
+/// block of that address holds all of the region, as most often, no address of it needs to be searched.
 pub fn find_astray<A: Kind, R: Kind>(
     blocks: &[BlockRow<A::Row>],
     region: A,
@@ -43,9 +61,15 @@ pub fn find_astray<A: Kind, R: Kind>(
     ensures { (t : Tree A R) → BlocksAre A.Kind blocks.now t → AstrayFound A.Kind.holds R.Kind.holds t region domain result }
 {
     let address = region.pick();
-    let home = domain_of::<A, R>(blocks, address);
+    let found = outcome_of::<A>(blocks, address);
+    let home = domain_in(found);
     if home as usize != domain {
         return Some(address);
+    }
+    if let Some(block) = found {
+        if covers_at(blocks, block.position, region) {
+            return None;
+        }
     }
     find(blocks, region, Wish::IsNot(home_of(home)), frames).map(|found| found.value)
 }

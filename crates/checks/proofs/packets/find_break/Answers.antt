@@ -1,4 +1,4 @@
-use Rattle.std.proofs.Common.{◌≡◌, refl, ap, ◌∙◌}
+use Rattle.std.proofs.Common.{refl, ap, ◌∙◌}
 use Rattle.kinds.specs.Masks.{low_bit}
 use Rattle.model.specs.Packets.{decision_number}
 use Rattle.checks.proofs.Broken.{called_found}

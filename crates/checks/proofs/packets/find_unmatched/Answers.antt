@@ -1,4 +1,4 @@
-use Rattle.std.proofs.Common.{◌≡◌, sym, ◌∙◌}
+use Rattle.std.proofs.Common.{sym, ◌∙◌}
 use Rattle.checks.proofs.Broken.{unmatched_found}
 use Rattle.checks.proofs.packets.find_unmatched.Goals as goal
 
