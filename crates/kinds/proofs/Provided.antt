@@ -1,11 +1,16 @@
 -- What holds of what is made, or of nothing, where a rule decides which.
 use Rattle.std.specs.Prelude.{◌≡◌, ℕ, Some, None, MatchOption}
-use Rattle.std.proofs.Common.{arith}
+use Rattle.std.proofs.Common.{arith, refl}
 use Rattle.kinds.specs.Made.{provided}
 
 pub provided_cases : {P X : Type 0} (d : Dec P) (f : P → X) (A : Type 0) (B : X → Type 0) → ((P → ⊥) → A) → ((h : P) → B (f h)) → MatchOption (provided d f) A B
 provided_cases (yes h) f A B a b = b h
 provided_cases (no n) f A B a b = a n
+
+-- where nothing may be made, nothing is
+pub provided_no : {P X : Type 0} (d : Dec P) (f : P → X) → (P → ⊥) → provided d f ≡ None
+provided_no (yes k) f n = absurd (n k)
+provided_no (no _) f n = refl
 
 -- what is made has what it was made for
 pub provided_fits : {P X : Type 0} (d : Dec P) (f : P → X) (B : X → Type 0) → MatchOption (provided d f) ⊥ B → (h : P) × B (f h)

@@ -1,5 +1,5 @@
 -- Between two domains of a sound tree there is one route.
-use Rattle.std.proofs.Common.{◌≡◌, ℕ, zero, suc, ◌+◌, ◌≤◌, ◌⊎◌, List, [], ◌∷◌, ◌++◌, map, sym, refl, ap, ◌∙◌, subst, inl, inr, arith}
+use Rattle.std.proofs.Common.{◌≡◌, ℕ, zero, suc, ◌+◌, ◌≤◌, ◌⊎◌, List, [], ◌∷◌, ◌++◌, map, length, sym, refl, ap, ◌∙◌, subst, inl, inr, arith}
 use native.Mathlib.Decide.{ℕ_discrete}
 use Rattle.model.specs.Shape.{Shape, Domain, Hangs, Lies, Joined, Walk, Absent, Distinct, firewalls_on, domains_on, Route, Sound, back}
 use Rattle.model.specs.Subtree.{Sub, self, Way, up, across, down}
@@ -182,38 +182,45 @@ module _ (s : Shape) (ok : Sound s) where
   pub hop_up : (u v f i j c : ℕ) (hs : List Hop) → Lies s u f i → Hangs s f c j → ((e k : ℕ) → Lies s e f k → Sub s e v → ⊥) → Route s u v hs → (ks : List Hop) × (hs ≡ record { firewall = f; entered = i; left = j; reached = c } ∷ ks) × Route s c v ks
   hop_up u v f i j c hs l h none = way_first u v (record { firewall = f; entered = i; left = j; reached = c }) hs (up l h none)
 
-  descend : (n u v : ℕ) → v ≤ u + n → Sub s u v → (hs : List Hop) × Led s u hs v
-  descend zero u v le r = let low = sub_le s ok u v r in ([], omega arith)
+  descend : (n u v : ℕ) → v ≤ u + n → Sub s u v → (hs : List Hop) × Led s u hs v × (length hs + u ≤ v)
+  descend zero u v le r = let low = sub_le s ok u v r in ([], omega arith, omega arith)
   descend (suc n) u v le r = elim (ℕ_discrete v u) [
-    | yes same ↦ ([], sym same)
+    | yes same ↦ ([], sym same, omega arith)
     | no other ↦
         let (w, f, i, j, l, h, t) = child s ok u v other r in
         let less = above_less s ok w f i u j l h in
-        let (hs, led) = descend n w v (omega arith) t in
-        (record { firewall = f; entered = j; left = i; reached = w } ∷ hs, (down h l t, led))
+        let (hs, led, short) = descend n w v (omega arith) t in
+        (record { firewall = f; entered = j; left = i; reached = w } ∷ hs, (down h l t, led), omega arith)
   ]
 
   -- the way is up until v is below a domain of the firewall above, and then down
-  climbing : (n u v : ℕ) → u ≤ n → Domain s u → Domain s v → (hs : List Hop) × Led s u hs v
-  climbing zero u v le in-u in-v = descend v u v (omega arith) (subst (λ x. Sub s x v) (omega arith) (sub_root s ok v in-v))
+  climbing : (n u v : ℕ) → u ≤ n → Domain s u → Domain s v → (hs : List Hop) × Led s u hs v × (length hs ≤ u + v)
+  climbing zero u v le in-u in-v =
+      let (hs, led, short) = descend v u v (omega arith) (subst (λ x. Sub s x v) (omega arith) (sub_root s ok v in-v)) in
+      (hs, led, omega arith)
   climbing (suc n) u v le in-u in-v = elim (sub_dec s ok u v in-v) [
-    | yes r ↦ descend v u v (omega arith) r
+    | yes r ↦ let (hs, led, short) = descend v u v (omega arith) r in (hs, led, omega arith)
     | no not ↦
         let (f, i, c, j, l, h, less) = parent s ok u in-u (λ none. not (subst (λ x. Sub s x v) (sym none) (sub_root s ok v in-v))) in
         elim (under_dec s ok f v in-v) [
           | inl (w, k, m, r) ↦
-              let (hs, led) = descend v w v (omega arith) r in
-              (record { firewall = f; entered = i; left = k; reached = w } ∷ hs, (across l m (λ same. not (subst (λ x. Sub s x v) same r)) r, led))
+              let lower = above_less s ok w f k c j m h in
+              let (hs, led, short) = descend v w v (omega arith) r in
+              (record { firewall = f; entered = i; left = k; reached = w } ∷ hs, (across l m (λ same. not (subst (λ x. Sub s x v) same r)) r, led), omega arith)
           | inr none ↦
-              let (hs, led) = climbing n c v (omega arith) (omega arith) in-v in
-              (record { firewall = f; entered = i; left = j; reached = c } ∷ hs, (up l h none, led))
+              let (hs, led, short) = climbing n c v (omega arith) (omega arith) in-v in
+              (record { firewall = f; entered = i; left = j; reached = c } ∷ hs, (up l h none, led), omega arith)
         ]
   ]
 
+  -- the route has no more hops than the numbers of its ends together
+  pub route_within : (u v : ℕ) → Domain s u → Domain s v → (hs : List Hop) × Route s u v hs × (length hs ≤ u + v)
+  route_within u v in-u in-v =
+      let (hs, led, short) = climbing u u v (omega arith) in-u in-v in
+      (hs, led_route v hs u led, short)
+
   pub route_exists : (u v : ℕ) → Domain s u → Domain s v → (hs : List Hop) × Route s u v hs
-  route_exists u v in-u in-v =
-      let (hs, led) = climbing u u v (omega arith) in-u in-v in
-      (hs, led_route v hs u led)
+  route_exists u v in-u in-v = let (hs, route, short) = route_within u v in-u in-v in (hs, route)
 
 -- The way back.
 abbrev turned : ℕ → Hop → Hop
