@@ -32,6 +32,10 @@ Covers holds region w x = MatchOption (region w) ⊥ (λ around. Inside (holds x
 abbrev pub CoversAt : {A V X : Type 0} → (A → V → Type 0) → (X → Option A) → List (Entry X) → ℕ → A → Type 0
 CoversAt holds region rows p x = MatchOption (slice_get rows p) ⊥ (λ block. Covers holds region block.row x)
 
+-- the region of a row shares a value with this one; a row that no region has shares none
+abbrev pub MeetsRow : {A V X : Type 0} → (A → V → Type 0) → (X → Option A) → X → A → Type 0
+MeetsRow holds region w x = MatchOption (region w) ⊥ (λ other. Share (holds x) (holds other))
+
 -- the outcome of the addresses of a domain, in the rows of the blocks
 abbrev pub Home : ℕ → Option ℕ → Type 0
 Home d o = ((d ≡ 0) × (o ≡ None)) ⊎ ((d ≢ 0) × (o ≡ Some d))

@@ -1,12 +1,14 @@
 // Of which domain addresses are.
-ghost use Rattle.std.specs.Prelude.{◌≡◌, ◌<◌, Decides, map, length};
-ghost use Rattle.checks.specs.Addresses.{BlocksAre, AstrayFound, Covers, CoversAt, Home, domain_in};
+ghost use Rattle.std.specs.Prelude.{◌≡◌, ◌<◌, ◌≤◌, Decides, map, length};
+ghost use Rattle.search.specs.First.{Before};
+ghost use Rattle.search.specs.declared.list.Entry.{Entry};
+ghost use Rattle.checks.specs.Addresses.{BlocksAre, AstrayFound, Covers, CoversAt, MeetsRow, Home, domain_in};
 ghost use Rattle.checks.specs.Rows.{block_entry};
 ghost use Rattle.model.specs.Properties.{Of};
 ghost use Rattle.model.specs.Tree.{Tree};
 
 use crate::rows::BlockRow;
-use kinds::{Kind, lies_inside};
+use kinds::{Kind, lies_inside, share_a_value};
 use search::{Frame, Match, Wish, find, outcome_of};
 
 /// The domain of an address: that of the block that holds it, or 0.
@@ -47,10 +49,30 @@ fn covers_at<A: Kind>(blocks: &[BlockRow<A::Row>], position: usize, region: A) -
     }
 }
 
+// Whether the region of a row shares an address with this one.
+fn row_meets<A: Kind>(row: A::Row, region: A) -> bool
+    ensures { Decides result (MeetsRow A.Kind.holds A.Kind.region row region) }
+{
+    A::read(row).is_some_and(|other| share_a_value(region, other))
+}
+
+// The position of the first block that shares an address with the region; where none does, the end.
+fn first_meeting<A: Kind>(blocks: &[BlockRow<A::Row>], region: A) -> usize
+    ensures within { result ≤ length blocks.now }
+    ensures before { Before (λ (block : Entry A.Row). MeetsRow A.Kind.holds A.Kind.region block.row region) blocks.now result }
+{
+    blocks
+        .iter()
+        .position(|block| row_meets(block.row, region))
+        .unwrap_or(blocks.len())
+}
+
 /// An address of the region that is not of the domain; nothing exactly when there is none.
 ///
 /// It asks of one address first, since a number that no block can have is that of no domain. Where the
 /// block of that address holds all of the region, as most often, no address of it needs to be searched.
+/// Else the blocks before the first that meets the region are left out, since a search goes over its
+/// list once for each piece.
 pub fn find_astray<A: Kind, R: Kind>(
     blocks: &[BlockRow<A::Row>],
     region: A,
@@ -71,5 +93,6 @@ pub fn find_astray<A: Kind, R: Kind>(
             return None;
         }
     }
-    find(blocks, region, Wish::IsNot(home_of(home)), frames).map(|found| found.value)
+    let met = &blocks[first_meeting(blocks, region)..];
+    find(met, region, Wish::IsNot(home_of(home)), frames).map(|found| found.value)
 }

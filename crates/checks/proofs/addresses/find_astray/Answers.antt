@@ -1,4 +1,7 @@
-use Rattle.std.proofs.Common.{◌≡◌, ap, sym, subst, Some, ◌∙◌, rules}
+use Rattle.std.proofs.Common.{◌≡◌, ◌-◌, ap, sym, subst, Some, ◌∙◌, rules, arith, length, drop, length-drop, take_all}
+use Rattle.std.proofs.lemmas.List.{drop-map}
+use Rattle.checks.specs.Rows.{block_entry}
+use Rattle.checks.proofs.Fronts.{front, clear_of, astray_front, owned_front}
 use Rattle.search.specs.List.{Says, row_holds}
 use Rattle.model.specs.Properties.{Of}
 use Rattle.model.proofs.Meanings.{of_one}
@@ -23,6 +26,10 @@ returns-then-covers_at g c t blocks =
 pub returns : goal.returns
 returns g c t blocks =
     let a = g.A.Kind in
+    let n = c.first_meeting.result in
     let home = subst (λ d. Home d c.home_of.result) c.if-home-domain.false c.home_of.ensures in
     let found : c.map.result ≡ value_in c.find.result = search rules in
-    rw found (called_astray a.holds g.R.Kind.holds a.plain a.region g.met.A.Kind.rereads t blocks.owned _ blocks.same g.met.A.Kind.decided c.args.region c.args.domain c.home_of.result home c.find.result c.find.ensures)
+    let clear = clear_of a.holds g.R.Kind.holds a.plain a.region g.met.A.Kind.rereads t c.args.region n c.args.blocks.now blocks.same c.first_meeting.ensures.before in
+    let size = length-drop n c.args.blocks.now in
+    let part = take_all (length c.args.blocks.now - n) (drop n c.args.blocks.now) (omega arith) ∙ ap (drop n) blocks.same ∙ drop-map (block_entry a.plain) n t.blocks in
+    rw found (astray_front a.holds g.R.Kind.holds a.plain a.region g.met.A.Kind.rereads t c.args.region n clear c.args.domain (value_in c.find.result) (called_astray a.holds g.R.Kind.holds a.plain a.region g.met.A.Kind.rereads (front a.holds g.R.Kind.holds a.plain a.region g.met.A.Kind.rereads t c.args.region n) (owned_front a.holds g.R.Kind.holds a.plain a.region g.met.A.Kind.rereads t c.args.region n blocks.owned) _ part g.met.A.Kind.decided c.args.region c.args.domain c.home_of.result home c.find.result c.find.ensures))
