@@ -1,5 +1,6 @@
 // Of which domain addresses are.
-ghost use Rattle.std.specs.Prelude.{◌≡◌, ◌<◌, ◌≤◌, Decides, map, length};
+ghost use Rattle.std.specs.Prelude.{◌≡◌, ◌<◌, ◌≤◌, Decides, MatchOption, map, length};
+ghost use Rattle.std.specs.List.{slice_get};
 ghost use Rattle.search.specs.First.{Before};
 ghost use Rattle.search.specs.declared.list.Entry.{Entry};
 ghost use Rattle.checks.specs.Addresses.{BlocksAre, AstrayFound, Covers, CoversAt, MeetsRow, Home, domain_in};
@@ -60,11 +61,13 @@ fn row_meets<A: Kind>(row: A::Row, region: A) -> bool
 fn first_meeting<A: Kind>(blocks: &[BlockRow<A::Row>], region: A) -> usize
     ensures within { result ≤ length blocks.now }
     ensures before { Before (λ (block : Entry A.Row). MeetsRow A.Kind.holds A.Kind.region block.row region) blocks.now result }
+    ensures here { result < length blocks.now → MatchOption (slice_get blocks.now result) ⊥ (λ block. MeetsRow A.Kind.holds A.Kind.region block.row region) }
 {
-    blocks
-        .iter()
-        .position(|block| row_meets(block.row, region))
-        .unwrap_or(blocks.len())
+    let first = blocks.iter().position(|block| row_meets(block.row, region));
+    match first {
+        Some(position) => position,
+        None => blocks.len(),
+    }
 }
 
 /// An address of the region that is not of the domain; nothing exactly when there is none.

@@ -38,8 +38,8 @@ fn rule(source: Set, decision: Decision) -> Rule<Set, Set> {
     }
 }
 
-#[test]
-fn each_line(rt: HostRuntime) -> Result<(), Fail> {
+// The call of a line of the listing of this tree, with its rules, a block and a property.
+fn line(number: usize) -> Result<Option<Call<Set, Set, u8, u8>>, Fail> {
     let all = Set::up_to(31);
     let tens = Set::up_to(9);
     let property = Property {
@@ -70,10 +70,14 @@ fn each_line(rt: HostRuntime) -> Result<(), Fail> {
         packet_frames: &mut [],
         address_frames: &mut [],
     };
-    let line = |number| listed(&state, &memory, number);
+    Ok(listed(&state, &memory, number))
+}
+
+#[test]
+fn firewalls_and_domains(rt: HostRuntime) -> Result<(), Fail> {
     assert!(rt;
         matches!(
-            line(0),
+            line(0)?,
             Some(Call::Attach {
                 domain: 0,
                 upper: 0,
@@ -84,7 +88,7 @@ fn each_line(rt: HostRuntime) -> Result<(), Fail> {
     );
     assert!(rt;
         matches!(
-            line(1),
+            line(1)?,
             Some(Call::Branch {
                 firewall: 0,
                 interface: 2
@@ -93,7 +97,7 @@ fn each_line(rt: HostRuntime) -> Result<(), Fail> {
     );
     assert!(rt;
         matches!(
-            line(2),
+            line(2)?,
             Some(Call::Attach {
                 domain: 1,
                 upper: 3,
@@ -102,19 +106,26 @@ fn each_line(rt: HostRuntime) -> Result<(), Fail> {
             })
         )
     );
-    assert!(rt; matches!(line(3), Some(Call::Give { domain: 1, region }) if region.mask() == 1023));
+    Ok(())
+}
+
+#[test]
+fn blocks_rules_and_properties(rt: HostRuntime) -> Result<(), Fail> {
     assert!(rt;
-        matches!(line(4), Some(Call::Place { firewall: 0, position: 0, rule }) if rule.source.mask() == 1023)
+        matches!(line(3)?, Some(Call::Give { domain: 1, region }) if region.mask() == 1023)
     );
     assert!(rt;
-        matches!(line(5), Some(Call::Alter { firewall: 0, position: 1, rule }) if rule.decision == Decision::Discard)
+        matches!(line(4)?, Some(Call::Place { firewall: 0, position: 0, rule }) if rule.source.mask() == 1023)
     );
     assert!(rt;
-        matches!(line(6), Some(Call::Alter { firewall: 1, position: 0, rule }) if rule.decision == Decision::Accept)
+        matches!(line(5)?, Some(Call::Alter { firewall: 0, position: 1, rule }) if rule.decision == Decision::Discard)
     );
     assert!(rt;
-        matches!(line(7), Some(Call::Stand { property }) if property.from == 1 && property.to == 3)
+        matches!(line(6)?, Some(Call::Alter { firewall: 1, position: 0, rule }) if rule.decision == Decision::Accept)
     );
-    assert!(rt; line(8).is_none());
+    assert!(rt;
+        matches!(line(7)?, Some(Call::Stand { property }) if property.from == 1 && property.to == 3)
+    );
+    assert!(rt; line(8)?.is_none());
     Ok(())
 }
